@@ -1,0 +1,6 @@
+pub mod Picks
+pub mod Rules
+pub mod Tables
+pub mod Maps
+pub mod Bits
+pub mod Parts

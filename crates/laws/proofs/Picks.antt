@@ -1,0 +1,42 @@
+-- Laws of `pick` and of the tests that it goes by. Assumes nothing.
+use mathlib.Core.Path.{_≡_, refl, sym}
+use mathlib.Core.Bool.{Bool, true, false, _&&_, _||_}
+use Rattle.laws.specs.Choice.{pick}
+
+-- a function goes inside
+pub push : {A B : Type 0} (f : A → B) (b : Bool) {x y : A} {u v : B} → f x ≡ u → f y ≡ v → f (pick b x y) ≡ pick b u v
+push f true p q = p
+push f false p q = q
+
+-- what holds of both holds of the choice, by what the test says
+pub choice : {A : Type 0} (P : A → Type 0) (b : Bool) {x y : A} → (b ≡ true → P x) → (b ≡ false → P y) → P (pick b x y)
+choice P true p q = p refl
+choice P false p q = q refl
+
+-- both give z under f, by what the test says
+pub chain : {A B : Type 0} (f : A → B) (b : Bool) {x y : A} {z : B} → (b ≡ true → f x ≡ z) → (b ≡ false → f y ≡ z) → f (pick b x y) ≡ z
+chain f true p q = p refl
+chain f false p q = q refl
+
+pub either : {A : Type 0} (b : Bool) {x y z : A} → (b ≡ true → x ≡ z) → (b ≡ false → y ≡ z) → pick b x y ≡ z
+either b p q = chain (λ x. x) b p q
+
+-- a guard that fails inside its arm
+pub guarded : {A : Type 0} (b d : Bool) (x : A) {y z : A} → (b && d) ≡ false → y ≡ z → pick b (pick d x z) y ≡ z
+guarded true true x e p = cc
+guarded true false x e p = refl
+guarded false d x e p = p
+
+-- two tests that say the same
+pub same-test : (b d : Bool) → (b ≡ true → d ≡ true) → (b ≡ false → d ≡ false) → b ≡ d
+same-test true d p q = sym (p refl)
+same-test false d p q = sym (q refl)
+
+-- both of a conjunction that is true, and neither of a disjunction that is false
+pub and-true : (b d : Bool) → (b && d) ≡ true → (b ≡ true) × (d ≡ true)
+and-true true d e = (refl, e)
+and-true false d e = (e, cc)
+
+pub or-false : (b d : Bool) → (b || d) ≡ false → (b ≡ false) × (d ≡ false)
+or-false true d e = (e, cc)
+or-false false d e = (refl, e)

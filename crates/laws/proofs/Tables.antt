@@ -1,0 +1,34 @@
+-- A rule of a table, proved at all of its entries by one test that antt computes; and a loop that makes such a test.
+-- Assumes nothing.
+use mathlib.Core.Path.{_≡_, _∙_, ap, sym}
+use mathlib.Core.Bool.{Bool, true, false, _&&_}
+use mathlib.Core.List.{List, [], _∷_}
+use Prim.Native.Nat.{ℕ, zero, suc, _+_, _<_}
+use native.Mathlib.Nat.{add-zero, zero-add, add-suc, suc-add, le-of-suc-le-suc, not-suc-le-zero}
+use native.Mathlib.Numerals.{add-one}
+use lib.ListN.{length, getD, drop}
+use lib.Seq.{drop-cons, drop-length}
+use Rattle.laws.specs.Entries.{every}
+use Rattle.laws.proofs.Picks.{and-true}
+
+from : {X : Type 0} (f : ℕ → X → Bool) (xs : List X) (d : X) (i : ℕ) → every f i xs ≡ true → (k : ℕ) → k < length xs → f (i + k) (getD xs k d) ≡ true
+from f [] d i t k h = absurd (not-suc-le-zero h)
+from f (x ∷ xs) d i t zero h = ap (λ (m : ℕ). f m x) (add-zero i) ∙ and-true (f i x) (every f (suc i) xs) t .0
+from f (x ∷ xs) d i t (suc k) h =
+    ap (λ (m : ℕ). f m (getD xs k d)) (add-suc i k ∙ sym (suc-add i k))
+    ∙ from f xs d (suc i) (and-true (f i x) (every f (suc i) xs) t .1) k (le-of-suc-le-suc h)
+
+-- a test that passes everywhere passes at index k
+pub at : {X : Type 0} (f : ℕ → X → Bool) (xs : List X) (d : X) → every f 0 xs ≡ true → (k : ℕ) → k < length xs → f k (getD xs k d) ≡ true
+at f xs d t k h = ap (λ (m : ℕ). f m (getD xs k d)) (sym (zero-add k)) ∙ from f xs d 0 t k h
+
+-- a loop that tests each entry in turn: the tests from index i on decide
+module _ {X : Type 0} (f : ℕ → X → Bool) (l : List X) (i : ℕ) where
+  pub every-next : (d : X) → i < length l → f i (getD l i d) ≡ true → every f i (drop i l) ≡ every f (i + 1) (drop (i + 1) l)
+  every-next d h t = rw (add-one, drop-cons l i d h, t)
+
+  pub every-fails : (d : X) → i < length l → f i (getD l i d) ≡ false → every f i (drop i l) ≡ false
+  every-fails d h t = rw (drop-cons l i d h, t)
+
+  pub every-done : i ≡ length l → every f i (drop i l) ≡ true
+  every-done e = rw (e, drop-length)
