@@ -1,0 +1,4 @@
+pub mod Little
+pub mod Sized
+pub mod RowCell
+pub mod Opened

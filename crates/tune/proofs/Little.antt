@@ -1,0 +1,14 @@
+-- Numbers of two and of four bytes, read off. Assumes nothing.
+use mathlib.Core.Path.{_≡_, refl}
+use mathlib.Core.List.{List}
+use Prim.Native.Nat.{ℕ, _+_, _*_}
+use native.Mathlib.Nat.{add-zero}
+use native.Mathlib.Omega.{arith}
+use lib.ListN.{getD}
+use Rattle.tune.specs.Numbers.{littleAt}
+
+pub two : (s : List ℕ) (at : ℕ) → littleAt 2 s at ≡ getD s at 0 + getD s (at + 1) 0 * 256
+two s at = rw add-zero (omega arith)
+
+pub four : (s : List ℕ) (at : ℕ) → littleAt 4 s at ≡ getD s at 0 + getD s (at + 1) 0 * 256 + getD s (at + 2) 0 * 65536 + getD s (at + 3) 0 * 16777216
+four s at = rw add-zero (omega arith)

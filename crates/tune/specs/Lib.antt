@@ -1,0 +1,5 @@
+pub mod Numbers
+pub mod Sizes
+pub mod Cells
+pub mod Samples
+pub mod Opening

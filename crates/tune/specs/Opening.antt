@@ -1,0 +1,29 @@
+-- The opening values (01, rules 5 and 10). Assumes nothing.
+use Prim.Native.Nat.{ℕ}
+use mathlib.Core.Bool.{Bool, _||_, not}
+use mathlib.Core.List.{List}
+use lib.Dec.{eqb, ltb, leb}
+use Rattle.laws.specs.Entries.{every}
+use Rattle.laws.specs.Refusals.{refuse}
+use Rattle.tune.specs.declared.opening.ChannelOpening.{ChannelOpening}
+use Rattle.tune.specs.declared.opening.Opening.{Opening}
+
+-- rule 5: speed is 0, tempo below 32 or global volume above 64
+abbrev pub levelsBroken : ℕ → ℕ → ℕ → Bool
+levelsBroken speed tempo volume = eqb speed 0 || ltb tempo 32 || ltb 64 volume
+
+-- the rate is 0 or above 100,000
+abbrev pub rateBroken : ℕ → Bool
+rateBroken rate = eqb rate 0 || ltb 100000 rate
+
+-- no pan is above 15
+abbrev pub pansKept : List ChannelOpening → Bool
+pansKept channels = every (λ i c. leb (c .pan) 15) 0 channels
+
+-- rule 10
+unfoldable pub rule10 : Opening → ℕ
+rule10 o =
+    refuse 10
+    (levelsBroken (o .speed) (o .tempo) (o .«global_volume»)
+    || not (pansKept (o .channels))
+    || rateBroken (o .rate))

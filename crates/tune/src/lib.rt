@@ -1,0 +1,6 @@
+// The tables that a call is lent and the opening values of a tune: their sizes, their rules, and their parts by value.
+pub mod cells;
+pub mod numbers;
+pub mod opening;
+pub mod samples;
+pub mod sizes;

@@ -1,0 +1,47 @@
+// Numbers of several bytes, the low byte first, and the two halves of a byte.
+ghost use mathlib.Core.Path.{_≡_};
+ghost use Prim.Native.Nat.{_+_, _*_, _/_, _%_, _≤_, _<_};
+ghost use lib.ListN.{length};
+ghost use Rattle.tune.specs.Numbers.{littleAt};
+
+// A byte as a wider number.
+pub fn wide(b: u8) -> usize
+    ensures { λ r. ⌜ (r ≡ b) × (r < 256) ⌝ }
+{
+    b as usize
+}
+
+fn wide32(b: u8) -> u32
+    ensures { λ r. ⌜ (r ≡ b) × (r < 256) ⌝ }
+{
+    b as u32
+}
+
+pub fn u16_at(s: &[u8], at: usize) -> usize
+    requires { ⌜ at + 2 ≤ length (now s) ⌝ }
+    ensures { λ r. ⌜ (r ≡ littleAt 2 (now (s .entry)) at) × (r < 65536) ⌝ }
+{
+    wide(s[at]) + wide(s[at + 1]) * 256
+}
+
+pub fn u32_at(s: &[u8], at: usize) -> u32
+    requires { ⌜ at + 4 ≤ length (now s) ⌝ }
+    ensures { λ r. ⌜ r ≡ littleAt 4 (now (s .entry)) at ⌝ }
+{
+    wide32(s[at])
+        + wide32(s[at + 1]) * 256
+        + wide32(s[at + 2]) * 65536
+        + wide32(s[at + 3]) * 16777216
+}
+
+pub fn high_nibble(b: u8) -> u8
+    ensures { λ r. ⌜ (r ≡ b / 16) × (r < 16) ⌝ }
+{
+    b >> 4
+}
+
+pub fn low_nibble(b: u8) -> u8
+    ensures { λ r. ⌜ (r ≡ b % 16) × (r < 16) ⌝ }
+{
+    b & 15
+}

@@ -1,0 +1,62 @@
+// The opening values of a tune, and rule 10.
+ghost use mathlib.Core.Path.{_≡_};
+ghost use Rattle.tune.specs.Opening.{levelsBroken, rateBroken, pansKept, rule10};
+
+pub struct ChannelOpening {
+    pub pan: u8,
+    pub muted: bool,
+    pub right_bank: bool,
+    pub adlib: bool,
+}
+
+pub struct Opening {
+    pub speed: u8,
+    pub tempo: u8,
+    pub global_volume: u8,
+    // card rate, in micrometres a second
+    pub rate: u32,
+    pub amiga_limits: bool,
+    pub fast_slides: bool,
+    pub channels: [ChannelOpening; 32],
+}
+
+// Whether speed, tempo or global volume breaks rule 5.
+pub fn levels_broken(speed: u8, tempo: u8, global_volume: u8) -> bool
+    ensures { λ r. ⌜ r ≡ levelsBroken speed tempo «global_volume» ⌝ }
+{
+    (speed == 0) | (tempo < 32) | (64 < global_volume)
+}
+
+pub fn rate_broken(rate: u32) -> bool
+    ensures { λ r. ⌜ r ≡ rateBroken rate ⌝ }
+{
+    (rate == 0) | (100000 < rate)
+}
+
+fn pans_kept(channels: [ChannelOpening; 32]) -> bool
+    ensures { λ r. ⌜ r ≡ pansKept channels ⌝ }
+{
+    let mut i: usize = 0;
+    while i < 32 {
+        let c = channels[i];
+        if 15 < c.pan {
+            return false;
+        }
+        i += 1;
+    }
+    true
+}
+
+// 10 where an opening value is out of range, else 0.
+pub fn opening_rule(o: Opening) -> u8
+    ensures { λ r. ⌜ r ≡ rule10 o ⌝ }
+{
+    let channels = o.channels;
+    let levels = levels_broken(o.speed, o.tempo, o.global_volume);
+    let pans = pans_kept(channels);
+    let rate = rate_broken(o.rate);
+    if levels | !pans | rate {
+        return 10;
+    }
+    0
+}
