@@ -1,0 +1,190 @@
+//! Odd states: anything that 01's rule 11 accepts, with nothing waiting and not ended.
+
+use crate::player::bridge::open;
+use crate::random::Random;
+use crate::state::{ChannelState, Delay, State};
+use crate::tune::Tune;
+
+pub fn odd_state(random: &mut Random, tune: &Tune) -> State {
+    let order_index = order(random, tune);
+    let (byte, speed, bpm) = (
+        random.byte(),
+        random.between(1, 255),
+        random.between(32, 255),
+    );
+    let start = random.below(1 << 62);
+    let rate = 1 + random.below(100_000) as u32;
+    State {
+        order_index,
+        row: random.between(0, 63),
+        loop_pattern_order: random.weighted(&[
+            (5, Some(order_index)),
+            (2, None),
+            (2, Some(byte)),
+            (1, Some(order_index.wrapping_add(1))),
+        ]),
+        loop_count: random.weighted(&[
+            (3, None),
+            (2, Some(0)),
+            (3, Some(1)),
+            (2, Some(2)),
+            (1, Some(255)),
+            (1, Some(byte)),
+        ]),
+        loop_start_row: random.between(0, 63),
+        pattern_delay_remaining: random.weighted(&[(6, 0), (2, 1), (1, 15), (1, 255)]),
+        replaying_for_pattern_delay: random.chance(12),
+        speed: random.weighted(&[(3, 6), (3, speed), (1, 1), (1, 255)]),
+        bpm: random.weighted(&[(3, 125), (3, bpm), (1, 32), (1, 255)]),
+        global_volume: random.weighted(&[(3, 64), (1, 0), (1, 65), (1, 255), (3, byte)]),
+        rate: random.weighted(&[(3, 60_000), (3, rate), (1, 1), (1, 100_000)]),
+        start: random.weighted(&[(2, 0), (4, start), (1, 1 << 62), (1, (1 << 62) - 1)]),
+        amiga_limits: random.chance(50),
+        fast_slides: random.chance(50),
+        channels: std::array::from_fn(|_| channel(random, tune)),
+        ..open(tune)
+    }
+}
+
+/// Mostly a place that names a pattern, also the others and past the end.
+fn order(random: &mut Random, tune: &Tune) -> u8 {
+    let length = tune.orders.len();
+    let there = |&at: &usize| tune.pattern_at(at).is_some();
+    let (named, others): (Vec<usize>, Vec<usize>) = (0..length).partition(there);
+    let named = random.one(&named) as u8;
+    let other = if others.is_empty() {
+        named
+    } else {
+        random.one(&others) as u8
+    };
+    let byte = random.byte();
+    random.weighted(&[(24, named), (4, other), (1, length as u8), (1, byte)])
+}
+
+fn channel(random: &mut Random, tune: &Tune) -> ChannelState {
+    let count = tune.sample_count() as u8;
+    let known = random.between(0, count);
+    let byte = random.byte();
+    ChannelState {
+        frequency: frequency(random),
+        target_frequency: frequency(random),
+        sample_pos: sample_pos(random),
+        instrument: random.weighted(&[(8, known), (1, count + 1), (1, 255)]),
+        volume: volume(random),
+        pan: random.weighted(&[(4, byte & 15), (1, 7), (1, 255), (1, byte)]),
+        active: random.chance(70),
+        command: random.between(0, 30),
+        info: random.byte(),
+        vibrato_pos: random.byte(),
+        tremolo_pos: random.byte(),
+        last_note: last_note(random),
+        pending_delay: delay(random),
+        glissando: random.chance(30),
+        vibrato_waveform: random.between(0, 3),
+        tremolo_waveform: random.between(0, 3),
+        retrig_counter: random.byte(),
+        tremor_on_counter: random.byte(),
+        tremor_off_counter: random.byte(),
+        stored_volume: volume(random),
+        keep_vibrato_pos_on_new_note: random.chance(40),
+        keep_tremolo_pos_on_new_note: random.chance(40),
+        muted: random.chance(20),
+        frozen: random.chance(40),
+        right_bank: random.chance(50),
+        adlib: random.chance(40),
+        opl_voice: random.chance(40),
+        voice_global_vol: random.byte(),
+        effect_memory: memory(random),
+    }
+}
+
+/// The bits of a float that is a number; half of them are usual pitches.
+fn frequency(random: &mut Random) -> u32 {
+    const ODD: [f32; 14] = [
+        0.0,
+        -0.0,
+        f32::INFINITY,
+        f32::NEG_INFINITY,
+        f32::MAX,
+        f32::MIN,
+        f32::MIN_POSITIVE,
+        -f32::MIN_POSITIVE,
+        8_363.0,
+        16_726.0,
+        126_703.15,
+        126_703.16,
+        1.0,
+        -440.0,
+    ];
+    let subnormal = 1 + random.below(0x7F_FFFF) as u32;
+    let any = random.next() as u32;
+    let any = if f32::from_bits(any).is_nan() {
+        any & 0x807F_FFFF
+    } else {
+        any
+    };
+    let odd = random.one(&ODD).to_bits();
+    let usual = (20.0 + random.below(200_000_000) as f32 / 1024.0).to_bits();
+    random.weighted(&[
+        (8, usual),
+        (5, odd),
+        (1, subnormal),
+        (1, subnormal | 1 << 31),
+        (1, any),
+    ])
+}
+
+/// The bits of a place in a sample, odd ones among them, never of no number.
+fn sample_pos(random: &mut Random) -> u64 {
+    const ODD: [f64; 6] = [
+        0.0,
+        -0.0,
+        f64::INFINITY,
+        f64::NEG_INFINITY,
+        f64::MAX,
+        5e-324,
+    ];
+    let odd = random.one(&ODD).to_bits();
+    let usual = (random.below(1 << 40) as f64 / 4096.0).to_bits();
+    random.weighted(&[(3, usual), (2, odd), (1, usual | 1 << 63)])
+}
+
+fn volume(random: &mut Random) -> u8 {
+    let (usual, byte) = (random.between(0, 63), random.byte());
+    random.weighted(&[(5, usual), (1, 64), (1, 200), (1, 255), (1, byte), (1, 0)])
+}
+
+fn last_note(random: &mut Random) -> u8 {
+    let usual = random.between(0, 8) << 4 | random.between(0, 11);
+    let byte = random.byte();
+    random.weighted(&[(5, usual), (2, 0), (1, 0xFE), (1, 0xFF), (2, byte)])
+}
+
+fn delay(random: &mut Random) -> Option<Delay> {
+    let tick = random.byte();
+    let delay = Delay {
+        fire_tick: random.weighted(&[(6, tick & 15), (1, tick), (1, 0)]),
+        note: random.byte(),
+        instrument: random.byte(),
+        volume: random.byte(),
+    };
+    random.weighted(&[(3, None), (1, Some(delay))])
+}
+
+/// Remembered infos; S often remembers a loop, a put-off cell or a hold.
+fn memory(random: &mut Random) -> [u8; 27] {
+    let mut out = std::array::from_fn(|_| {
+        let byte = random.byte();
+        random.weighted(&[(1, 0), (3, byte)])
+    });
+    let low = random.between(0, 15);
+    let byte = random.byte();
+    out[19] = random.weighted(&[
+        (2, 0xB0 | low),
+        (3, 0xD0 | low),
+        (2, 0xE0 | low),
+        (6, byte),
+        (1, 0),
+    ]);
+    out
+}

@@ -1,0 +1,91 @@
+//! Runs the original row processor of oxideav-s3m as the judge of the port.
+
+mod archive;
+mod cover;
+mod example;
+mod generate;
+mod powf;
+mod random;
+mod reader;
+mod readers;
+mod record;
+mod sheet;
+mod show;
+mod state;
+mod tally;
+mod tune;
+mod walk;
+
+#[path = "standins/factors.rs"]
+mod factors;
+#[path = "standins/oxideav_core.rs"]
+mod oxideav_core;
+#[path = "standins/samples.rs"]
+mod samples;
+
+#[cfg(test)]
+mod patch;
+#[cfg(test)]
+mod path;
+#[cfg(test)]
+mod tests;
+
+// The original's modules header, opl2, pattern and player, patched by build.rs.
+include!(concat!(env!("OUT_DIR"), "/original.rs"));
+
+use std::io::{self, Read, Write};
+use std::path::Path;
+use std::process::ExitCode;
+
+const USAGE: &str = "usage: oracle/run sheet < FILE
+       oracle/run readers < FILE
+       oracle/run example worked > FILE
+       oracle/run record DIR | compare DIR | cover DIR | tally DIR
+       oracle/run show FILE N [ROW]
+       oracle/run powf";
+
+fn main() -> ExitCode {
+    let args: Vec<String> = std::env::args().skip(1).collect();
+    let words: Vec<&str> = args.iter().map(String::as_str).collect();
+    let answer = match words[..] {
+        ["sheet"] => standard_input().map(|file| sheet::sheet(&file).into_bytes()),
+        ["readers"] => standard_input().map(|file| readers::report(&file).into_bytes()),
+        ["example", "worked"] => Ok(example::worked()),
+        ["record", dir] => record::record(Path::new(dir)).map(String::into_bytes),
+        ["compare", dir] => record::compare(Path::new(dir)).map(String::into_bytes),
+        ["tally", dir] => tally::report(Path::new(dir)).map(String::into_bytes),
+        ["cover", dir] => cover::report(Path::new(dir)).map(String::into_bytes),
+        ["show", file, ref place @ ..] => show(file, place).map(String::into_bytes),
+        ["powf"] => Ok(powf::report().into_bytes()),
+        _ => Err(USAGE.to_string()),
+    };
+    match answer.and_then(standard_output) {
+        Ok(()) => ExitCode::SUCCESS,
+        Err(why) => {
+            eprintln!("{why}");
+            ExitCode::FAILURE
+        }
+    }
+}
+
+/// Shows a tune (`place` is its number) or one row of it (and the row's).
+fn show(file: &str, place: &[&str]) -> Result<String, String> {
+    let numbers: Result<Vec<usize>, _> = place.iter().map(|word| word.parse()).collect();
+    match numbers.as_deref() {
+        Ok([tune]) => show::show(Path::new(file), *tune, None),
+        Ok([tune, row]) => show::show(Path::new(file), *tune, Some(*row)),
+        _ => Err(USAGE.to_string()),
+    }
+}
+
+fn standard_input() -> Result<Vec<u8>, String> {
+    let mut file = Vec::new();
+    let read = io::stdin().read_to_end(&mut file);
+    read.map(|_| file).map_err(|why| why.to_string())
+}
+
+fn standard_output(bytes: Vec<u8>) -> Result<(), String> {
+    io::stdout()
+        .write_all(&bytes)
+        .map_err(|why| why.to_string())
+}

@@ -1,0 +1,162 @@
+//! The tables that a call is lent, byte for byte as document 01 lays them out, with
+//! the opening values.
+
+pub const CHANNELS: usize = 32;
+pub const ROWS: usize = 64;
+pub const CELL: usize = 5;
+pub const ROW_BYTES: usize = CHANNELS * CELL;
+pub const PATTERN_BYTES: usize = ROWS * ROW_BYTES;
+pub const SAMPLE_BYTES: usize = 20;
+pub const OPENING_BYTES: usize = 144;
+
+/// An unnamed cell: no note, no instrument, no volume, no command, info 0.
+pub const EMPTY_CELL: [u8; CELL] = [255, 0, 255, 0, 0];
+
+#[derive(Clone, Copy, Debug, Default, PartialEq, Eq)]
+pub struct ChannelOpening {
+    pub pan: u8,
+    pub muted: bool,
+    pub right_bank: bool,
+    pub adlib: bool,
+}
+
+#[derive(Clone, Debug, PartialEq, Eq)]
+pub struct Opening {
+    pub speed: u8,
+    pub tempo: u8,
+    pub global_volume: u8,
+    pub amiga_limits: bool,
+    pub fast_slides: bool,
+    pub rate: u32,
+    pub channels: [ChannelOpening; CHANNELS],
+}
+
+#[derive(Clone, Debug, PartialEq, Eq)]
+pub struct Tune {
+    pub orders: Vec<u8>,
+    pub samples: Vec<u8>,
+    pub cells: Vec<u8>,
+    pub opening: Opening,
+}
+
+/// A sample's 20 bytes taken apart.
+pub struct Sample {
+    pub kind: u8,
+    pub volume: u8,
+    pub looped: bool,
+    pub length: u32,
+    pub loop_start: u32,
+    pub loop_end: u32,
+    pub c5_speed: u32,
+}
+
+impl Sample {
+    /// Types 2 to 7 are AdLib.
+    pub fn is_adlib(&self) -> bool {
+        (2..=7).contains(&self.kind)
+    }
+
+    fn decode(b: &[u8]) -> Sample {
+        Sample {
+            kind: b[0],
+            volume: b[1],
+            looped: b[2] != 0,
+            length: le32(b, 4),
+            loop_start: le32(b, 8),
+            loop_end: le32(b, 12),
+            c5_speed: le32(b, 16),
+        }
+    }
+}
+
+impl Tune {
+    pub fn patterns(&self) -> usize {
+        self.cells.len() / PATTERN_BYTES
+    }
+
+    pub fn sample_count(&self) -> usize {
+        self.samples.len() / SAMPLE_BYTES
+    }
+
+    pub fn sample(&self, index: usize) -> Sample {
+        Sample::decode(&self.samples[index * SAMPLE_BYTES..][..SAMPLE_BYTES])
+    }
+
+    /// The cells of a row, channel by channel: note, instrument, volume, command, info.
+    pub fn row(&self, pattern: usize, row: usize) -> impl Iterator<Item = &[u8]> {
+        let from = pattern * PATTERN_BYTES + row * ROW_BYTES;
+        self.cells[from..from + ROW_BYTES].chunks_exact(CELL)
+    }
+
+    /// What an order's place holds for a walk: a pattern that is there, or none.
+    pub fn pattern_at(&self, order: usize) -> Option<usize> {
+        let named = usize::from(*self.orders.get(order)?);
+        (named < 0xFE && named < self.patterns()).then_some(named)
+    }
+
+    /// Rules 9 and 10: the tables have sizes that 01 gives, and the opening values are in range.
+    pub fn is_accepted(&self) -> bool {
+        let opening = &self.opening;
+        (1..=255).contains(&self.orders.len())
+            && self.cells.len().is_multiple_of(PATTERN_BYTES)
+            && self.patterns() <= 100
+            && self.samples.len().is_multiple_of(SAMPLE_BYTES)
+            && self.sample_count() <= 99
+            && opening.speed > 0
+            && opening.tempo >= 32
+            && opening.global_volume <= 64
+            && opening.channels.iter().all(|channel| channel.pan <= 15)
+            && (1..=100_000).contains(&opening.rate)
+    }
+}
+
+impl Opening {
+    pub fn encode(&self) -> [u8; OPENING_BYTES] {
+        let mut out = [0; OPENING_BYTES];
+        out[0] = self.speed;
+        out[1] = self.tempo;
+        out[2] = self.global_volume;
+        out[3] = self.amiga_limits.into();
+        out[4] = self.fast_slides.into();
+        out[8..12].copy_from_slice(&self.rate.to_le_bytes());
+        for (ch, b) in self.channels.iter().zip(out[16..].chunks_exact_mut(4)) {
+            let flags = [ch.muted, ch.right_bank, ch.adlib].map(u8::from);
+            b[0] = ch.pan;
+            b[1..].copy_from_slice(&flags);
+        }
+        out
+    }
+
+    pub fn decode(b: &[u8]) -> Opening {
+        let channel = |i: usize| {
+            let b = &b[16 + i * 4..][..4];
+            ChannelOpening {
+                pan: b[0],
+                muted: b[1] != 0,
+                right_bank: b[2] != 0,
+                adlib: b[3] != 0,
+            }
+        };
+        Opening {
+            speed: b[0],
+            tempo: b[1],
+            global_volume: b[2],
+            amiga_limits: b[3] != 0,
+            fast_slides: b[4] != 0,
+            rate: le32(b, 8),
+            channels: std::array::from_fn(channel),
+        }
+    }
+}
+
+pub fn le16(b: &[u8], at: usize) -> u16 {
+    u16::from_le_bytes([b[at], b[at + 1]])
+}
+
+pub fn le32(b: &[u8], at: usize) -> u32 {
+    u32::from_le_bytes([b[at], b[at + 1], b[at + 2], b[at + 3]])
+}
+
+pub fn le64(b: &[u8], at: usize) -> u64 {
+    u64::from(le32(b, at)) | u64::from(le32(b, at + 4)) << 32
+}
