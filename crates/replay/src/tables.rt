@@ -1,0 +1,286 @@
+// A recorded tune: its tables, then its visits or the rows of its walk.
+ghost use mathlib.Core.Path.{_≡_};
+ghost use Prim.Native.Nat.{_+_, _*_, _≤_, _<_};
+ghost use lib.ListN.{length};
+use crate::tally;
+use tune::cells::cell_of;
+use tune::cells::row_cells;
+use tune::numbers::u16_at;
+use tune::numbers::u32_at;
+use tune::numbers::wide;
+use tune::opening::ChannelOpening;
+use tune::opening::Opening;
+use tune::opening::opening_rule;
+use tune::samples::Sample;
+use tune::samples::SampleOption;
+use tune::samples::sample_of;
+use tune::sizes::sizes_rule;
+
+// Bytes of a recorded state, of its head, and of a record.
+const STATE: usize = 2368;
+
+const HEAD: usize = 64;
+
+const RECORD: usize = 536;
+
+// Room for what is read. The contracts give the lengths alone: the zeros would stand in each goal.
+fn head_room() -> [u8; 16]
+    ensures { λ r. ⌜ 16 ≡ length r ⌝ }
+{
+    [0; 16]
+}
+
+fn opening_room() -> [u8; 144]
+    ensures { λ r. ⌜ 144 ≡ length r ⌝ }
+{
+    [0; 144]
+}
+
+fn state_room() -> [u8; STATE]
+    ensures { λ r. ⌜ 2368 ≡ length r ⌝ }
+{
+    [0; STATE]
+}
+
+fn record_room() -> [u8; RECORD]
+    ensures { λ r. ⌜ 536 ≡ length r ⌝ }
+{
+    [0; RECORD]
+}
+
+fn read_exact(fd: i32, buf: &mut [u8]) -> bool {
+    io::read_full(fd, buf) == buf.len()
+}
+
+fn channel_of(bytes: &[u8], channel: usize) -> ChannelOpening
+    requires { ⌜ (length (now bytes) ≡ 144) × (channel < 32) ⌝ }
+{
+    let at = 16 + channel * 4;
+    ChannelOpening {
+        pan: bytes[at],
+        muted: bytes[at + 1] != 0,
+        right_bank: bytes[at + 2] != 0,
+        adlib: bytes[at + 3] != 0,
+    }
+}
+
+fn opening_of(bytes: &[u8]) -> Opening
+    requires { ⌜ length (now bytes) ≡ 144 ⌝ }
+{
+    let mut channels = [channel_of(bytes, 0); 32];
+    let mut channel: usize = 1;
+    while channel < 32 {
+        channels[channel] = channel_of(bytes, channel);
+        channel += 1;
+    }
+    Opening {
+        speed: bytes[0],
+        tempo: bytes[1],
+        global_volume: bytes[2],
+        rate: u32_at(bytes, 8),
+        amiga_limits: bytes[3] != 0,
+        fast_slides: bytes[4] != 0,
+        channels,
+    }
+}
+
+fn tally_cells(row: &[u8], counts: &mut [u64])
+    requires { ⌜ length (now row) ≡ 160 ⌝ }
+{
+    let mut channel: usize = 0;
+    while channel < 32 {
+        let cell = cell_of(row, channel);
+        tally::add(counts, tally::of_command(cell.command), 1);
+        channel += 1;
+    }
+}
+
+// A held visit reads no cell; a pattern that is not there ends the tune.
+fn tally_visit(cells: &[u8], pattern: u8, row: u8, held: u8, counts: &mut [u64]) {
+    tally::add(counts, tally::VISITS, 1);
+    if held != 0 {
+        tally::add(counts, tally::HELD, 1);
+        return;
+    }
+    if cells.len() < wide(pattern) * 10240 + 10240 {
+        tally::add(counts, tally::ENDED, 1);
+        return;
+    }
+    if row < 64 {
+        let part = row_cells(cells, pattern, row);
+        tally_cells(part, counts);
+    }
+}
+
+// A visit: the state before, the state entered, and the head of the state left.
+fn read_visit(fd: i32, cells: &[u8], counts: &mut [u64]) -> bool {
+    let mut before = state_room();
+    let mut entered = state_room();
+    if !read_exact(fd, &mut before) {
+        return false;
+    }
+    if !read_exact(fd, &mut entered) {
+        return false;
+    }
+    tally_visit(cells, entered[19], entered[1], before[8], counts);
+    read_first(fd, &mut before, HEAD)
+}
+
+// A row of a walk: its record.
+fn read_row(fd: i32, cells: &[u8], counts: &mut [u64]) -> bool {
+    let mut record = record_room();
+    if !read_exact(fd, &mut record) {
+        return false;
+    }
+    tally_visit(cells, record[1], record[2], record[3], counts);
+    true
+}
+
+fn read_answer(fd: i32, walks: bool, cells: &[u8], counts: &mut [u64]) -> bool {
+    if walks {
+        return read_row(fd, cells, counts);
+    }
+    read_visit(fd, cells, counts)
+}
+
+// The state behind a walk.
+fn read_last(fd: i32, walks: bool) -> bool {
+    if walks {
+        let mut state = state_room();
+        return read_exact(fd, &mut state);
+    }
+    true
+}
+
+// The visits of a tune, or the rows of its walk and the state behind them.
+fn tally_visits(fd: i32, walks: bool, visits: usize, cells: &[u8], counts: &mut [u64]) -> bool {
+    let mut n: usize = 0;
+    while n < visits {
+        let whole = read_answer(fd, walks, cells, counts);
+        if !whole {
+            return false;
+        }
+        n += 1;
+    }
+    read_last(fd, walks)
+}
+
+fn tally_samples(samples: &[u8], counts: &mut [u64]) {
+    let mut instrument: u8 = 0;
+    while instrument < 99 {
+        instrument += 1;
+        let named = sample_of(samples, instrument);
+        if let SampleOption::Some(sample) = named {
+            tally_sample(sample, counts);
+        }
+    }
+}
+
+fn tally_sample(sample: Sample, counts: &mut [u64]) {
+    tally::add(counts, tally::SAMPLES, 1);
+    tally::add(counts, tally::LOOPED, sample.looped as u64);
+    tally::add(counts, tally::ADLIB, sample.is_adlib() as u64);
+    tally::add(counts, tally::C5_SUM, sample.c5_speed as u64);
+}
+
+// How many bytes a tune's tables have, and how many visits follow.
+struct Head {
+    orders: usize,
+    samples: usize,
+    cells: usize,
+    visits: usize,
+}
+
+fn head_of(bytes: &[u8]) -> Head
+    requires { ⌜ length (now bytes) ≡ 16 ⌝ }
+{
+    Head {
+        orders: u16_at(bytes, 0),
+        samples: u16_at(bytes, 2) * 20,
+        cells: u16_at(bytes, 4) * 10240,
+        visits: u16_at(bytes, 6),
+    }
+}
+
+// Fills the first n bytes; false where there are fewer.
+fn read_first(fd: i32, table: &mut [u8], n: usize) -> bool {
+    if table.len() < n {
+        return false;
+    }
+    read_exact(fd, &mut table[..n])
+}
+
+fn first(table: &[u8], n: usize) -> &[u8] {
+    if table.len() < n {
+        return table;
+    }
+    &table[..n]
+}
+
+// What a tune's tables hold, then its visits. The tables are at the start of larger buffers.
+fn tally_tables(
+    fd: i32,
+    walks: bool,
+    head: Head,
+    opening: &[u8],
+    orders: &[u8],
+    samples: &[u8],
+    cells: &[u8],
+    counts: &mut [u64],
+) -> bool
+    requires { ⌜ length (now opening) ≡ 144 ⌝ }
+{
+    let orders = first(orders, head.orders);
+    let samples = first(samples, head.samples);
+    let cells = first(cells, head.cells);
+    let sizes = sizes_rule(orders, cells, samples);
+    let values = opening_rule(opening_of(opening));
+    tally::add(counts, tally::TUNES, 1);
+    tally::add(
+        counts,
+        tally::REFUSED,
+        ((sizes != 0) | (values != 0)) as u64,
+    );
+    tally_samples(samples, counts);
+    tally_visits(fd, walks, head.visits, cells, counts)
+}
+
+// A tune, or false behind the last one, where a head of zeros stands.
+fn tally_tune(fd: i32, walks: bool, counts: &mut [u64]) -> bool {
+    let mut first_bytes = head_room();
+    let mut opening = opening_room();
+    let mut orders = io::buffer();
+    let mut samples = io::buffer();
+    let mut cells = io::large_buffer();
+    if !read_exact(fd, &mut first_bytes) {
+        return false;
+    }
+    let head = head_of(&first_bytes);
+    if head.orders == 0 {
+        return false;
+    }
+    if !read_exact(fd, &mut opening) {
+        return false;
+    }
+    if !read_first(fd, &mut orders, head.orders) {
+        return false;
+    }
+    if !read_first(fd, &mut samples, head.samples) {
+        return false;
+    }
+    if !read_first(fd, &mut cells, head.cells) {
+        return false;
+    }
+    tally_tables(fd, walks, head, &opening, &orders, &samples, &cells, counts)
+}
+
+// At most 1,000 tunes: a proved loop ends.
+pub fn tally_tunes(fd: i32, walks: bool, counts: &mut [u64]) {
+    let mut n: usize = 0;
+    while n < 1000 {
+        if !tally_tune(fd, walks, counts) {
+            return;
+        }
+        n += 1;
+    }
+}

@@ -1,0 +1,79 @@
+// Counters: commands 0 to 26 in their own, greater ones in 27, then those named here.
+ghost use mathlib.Core.Path.{_≡_};
+ghost use lib.ListN.{length};
+use libc::STDOUT_FILENO;
+use tune::numbers::wide;
+
+const ABOVE: usize = 27;
+
+pub const TUNES: usize = 28;
+
+pub const REFUSED: usize = 29;
+
+pub const SAMPLES: usize = 30;
+
+pub const LOOPED: usize = 31;
+
+pub const ADLIB: usize = 32;
+
+pub const C5_SUM: usize = 33;
+
+pub const VISITS: usize = 34;
+
+pub const HELD: usize = 35;
+
+pub const ENDED: usize = 36;
+
+pub fn counters() -> [u64; 40]
+    ensures { λ r. ⌜ 40 ≡ length r ⌝ }
+{
+    [0; 40]
+}
+
+pub fn of_command(command: u8) -> usize {
+    if command <= 26 { wide(command) } else { ABOVE }
+}
+
+pub fn add(counts: &mut [u64], counter: usize, n: u64) {
+    if counter < counts.len() {
+        let before = counts[counter];
+        counts[counter] = std::num::wrapping_add_u64(before, n);
+    }
+}
+
+fn print_count(name: &[u8], counts: &[u64], counter: usize) {
+    if counter < counts.len() {
+        io::write_all(STDOUT_FILENO, name);
+        io::print_decimal(STDOUT_FILENO, counts[counter]);
+        io::write_all(STDOUT_FILENO, b"\n");
+    }
+}
+
+fn print_command(counts: &[u64], command: usize) {
+    io::write_all(STDOUT_FILENO, b"command ");
+    io::print_decimal(STDOUT_FILENO, command as u64);
+    print_count(b": ", counts, command);
+}
+
+fn print_commands(counts: &[u64]) {
+    let mut command: usize = 0;
+    while command < ABOVE {
+        print_command(counts, command);
+        command += 1;
+    }
+    print_count(b"other commands: ", counts, ABOVE);
+}
+
+// Each counter with its name, a line each.
+pub fn print(counts: &[u64]) {
+    print_count(b"tunes: ", counts, TUNES);
+    print_count(b"refused by rule 9 or 10: ", counts, REFUSED);
+    print_count(b"samples: ", counts, SAMPLES);
+    print_count(b"looped: ", counts, LOOPED);
+    print_count(b"AdLib: ", counts, ADLIB);
+    print_count(b"c5 speeds, summed: ", counts, C5_SUM);
+    print_count(b"visits: ", counts, VISITS);
+    print_count(b"held: ", counts, HELD);
+    print_count(b"ended: ", counts, ENDED);
+    print_commands(counts);
+}
