@@ -4,3 +4,4 @@ pub mod Tables
 pub mod Maps
 pub mod Bits
 pub mod Parts
+pub mod Pieces

@@ -1,6 +1,9 @@
 -- Laws of `pick` and of the tests that it goes by. Assumes nothing.
 use mathlib.Core.Path.{_≡_, refl, sym}
 use mathlib.Core.Bool.{Bool, true, false, _&&_, _||_}
+use mathlib.Core.List.{List}
+use Prim.Native.Nat.{ℕ}
+use lib.ListN.{length}
 use Rattle.laws.specs.Choice.{pick}
 
 -- a function goes inside
@@ -20,6 +23,11 @@ chain f false p q = q refl
 
 pub either : {A : Type 0} (b : Bool) {x y z : A} → (b ≡ true → x ≡ z) → (b ≡ false → y ≡ z) → pick b x y ≡ z
 either b p q = chain (λ x. x) b p q
+
+-- both lists have the length n
+pub either-length : {A : Type 0} (b : Bool) (x y : List A) (n : ℕ) → length x ≡ n → length y ≡ n → length (pick b x y) ≡ n
+either-length true x y n p q = p
+either-length false x y n p q = q
 
 -- a guard that fails inside its arm
 pub guarded : {A : Type 0} (b d : Bool) (x : A) {y z : A} → (b && d) ≡ false → y ≡ z → pick b (pick d x z) y ≡ z

@@ -1,14 +1,15 @@
 -- A rule of a table, proved at all of its entries by one test that antt computes; and a loop that makes such a test.
 -- Assumes nothing.
-use mathlib.Core.Path.{_≡_, _∙_, ap, sym}
-use mathlib.Core.Bool.{Bool, true, false, _&&_}
+use mathlib.Core.Path.{_≡_, _∙_, refl, ap, sym}
+use mathlib.Core.Logic.{inl, inr}
+use mathlib.Core.Bool.{Bool, true, false, _&&_, _||_}
 use mathlib.Core.List.{List, [], _∷_}
 use Prim.Native.Nat.{ℕ, zero, suc, _+_, _<_}
-use native.Mathlib.Nat.{add-zero, zero-add, add-suc, suc-add, le-of-suc-le-suc, not-suc-le-zero}
+use native.Mathlib.Nat.{add-zero, zero-add, add-suc, suc-add, le-of-suc-le-suc, not-suc-le-zero, eq-or-lt-of-le}
 use native.Mathlib.Numerals.{add-one}
 use lib.ListN.{length, getD, drop}
 use lib.Seq.{drop-cons, drop-length}
-use Rattle.laws.specs.Entries.{every}
+use Rattle.laws.specs.Entries.{every, some}
 use Rattle.laws.proofs.Picks.{and-true}
 
 from : {X : Type 0} (f : ℕ → X → Bool) (xs : List X) (d : X) (i : ℕ) → every f i xs ≡ true → (k : ℕ) → k < length xs → f (i + k) (getD xs k d) ≡ true
@@ -32,3 +33,37 @@ module _ {X : Type 0} (f : ℕ → X → Bool) (l : List X) (i : ℕ) where
 
   pub every-done : i ≡ length l → every f i (drop i l) ≡ true
   every-done e = rw (e, drop-length)
+
+-- a loop that looks for a number that passes
+module _ (f : ℕ → Bool) where
+  pub some-none : some 0 f ≡ false
+  unfolding some
+  some-none = refl
+
+  pub some-next : (k : ℕ) → some k f ≡ false → f k ≡ false → some (k + 1) f ≡ false
+  unfolding some
+  some-next k e g = rw (add-one, e, g)
+
+  pub some-found : (n k : ℕ) → k < n → f k ≡ true → some n f ≡ true
+  unfolding some
+  some-found zero k h g = absurd (not-suc-le-zero h)
+  some-found (suc n) k h g = elim (eq-or-lt-of-le (le-of-suc-le-suc h)) [
+    | inl e ↦ last (some n f) (f n) (ap f (sym e) ∙ g)
+    | inr l ↦ earlier (some n f) (f n) (some-found n k l g)
+  ]
+    where
+      last : (a b : Bool) → b ≡ true → (a || b) ≡ true
+      last true b e = refl
+      last false b e = e
+
+      earlier : (a b : Bool) → a ≡ true → (a || b) ≡ true
+      earlier true b e = refl
+      earlier false b e = cc
+
+  -- where none below n passes, k does not
+  pub some-absent : (n k : ℕ) → k < n → some n f ≡ false → f k ≡ false
+  some-absent n k h e = by (f k) refl
+    where
+      by : (b : Bool) → f k ≡ b → b ≡ false
+      by true g = sym (sym e ∙ some-found n k h g)
+      by false g = refl

@@ -1,7 +1,7 @@
--- What is done at each entry of a list with its index. Assumes nothing.
-use Prim.Native.Nat.{ℕ, suc}
-use mathlib.Core.Bool.{Bool, true, _&&_}
-use mathlib.Core.List.{List, [], _∷_}
+-- What is done at each entry of a list with its index, and lists made entry by entry. Assumes nothing.
+use Prim.Native.Nat.{ℕ, zero, suc}
+use mathlib.Core.Bool.{Bool, true, false, _&&_, _||_}
+use mathlib.Core.List.{List, [], _∷_, _++_}
 
 -- the test passes at each entry, the first of which has index i
 abbrev pub every : {X : Type 0} → (ℕ → X → Bool) → ℕ → List X → Bool
@@ -12,3 +12,17 @@ every f i (x ∷ xs) = f i x && every f (suc i) xs
 unfoldable pub mapFrom : {X : Type 0} → (ℕ → X → X) → ℕ → List X → List X
 mapFrom f i [] = []
 mapFrom f i (x ∷ xs) = f i x ∷ mapFrom f (suc i) xs
+
+-- the pieces f 0, f 1, .. f (n - 1), joined
+unfoldable pub pieces : {X : Type 0} → ℕ → (ℕ → List X) → List X
+pieces zero f = []
+pieces (suc n) f = pieces n f ++ f n
+
+-- the entries f 0, f 1, .. f (n - 1)
+abbrev pub tabulate : {X : Type 0} → ℕ → (ℕ → X) → List X
+tabulate n f = pieces n (λ k. f k ∷ [])
+
+-- the test passes at some number below n
+unfoldable pub some : ℕ → (ℕ → Bool) → Bool
+some zero f = false
+some (suc n) f = some n f || f n
