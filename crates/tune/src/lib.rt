@@ -2,5 +2,6 @@
 pub mod cells;
 pub mod numbers;
 pub mod opening;
+pub mod parts;
 pub mod samples;
 pub mod sizes;
