@@ -1,0 +1,4 @@
+mod Steps
+mod Walks
+pub mod Lengths
+pub mod PastTheEnd

@@ -1,0 +1,3 @@
+pub mod Entry
+pub mod Unpacking
+pub mod Reading
