@@ -1,0 +1,84 @@
+-- `s3m::patterns::patterns_past` meets its contract. Assumes nothing.
+use denote.Ref.{now}
+use Prim.Native.Nat.{ℕ}
+use native.Mathlib.Omega.{arith}
+use borrow.Author.Needs.{needs}
+use Prim.Native.Nat.{_≤_, _-_}
+use mathlib.Core.Path.{_≡_, sym, _∙_, ap}
+use mathlib.Core.Bool.{false}
+use Rattle.laws.specs.Entries.{some}
+use Rattle.laws.proofs.Tables.{some-none, some-next, some-found}
+use Rattle.s3m.specs.Layout.{pointerAt}
+use Rattle.s3m.specs.Patterns.{patternPast, patternsPast}
+use Rattle.s3m.proofs.patterns.patterns_past.Statement.{statement}
+use Rattle.s3m.proofs.patterns.patterns_past.Tie as tie
+
+abbrev Inv-loop : tie.InvT-loop
+Inv-loop file list n k₀ k = (k ≤ n) × (some k (λ i. patternPast file (pointerAt file list i)) ≡ false)
+
+abbrev μ-loop : tie.MeasureT-loop
+μ-loop file list n k₀ k = n - k
+
+-- the test at this turn's pointer
+past : (c : tie.Then1 Inv-loop μ-loop) → patternPast (now (c .before .before .before .before .before .before .args .file)) (pointerAt (now (c .before .before .before .before .before .before .args .file)) (c .before .before .before .before .before .before .args .list) (c .before .before .before .before .loop .k)) ≡ c .before .pattern-past .result
+past c = ap (patternPast (now (c .before .before .before .before .before .before .args .file))) (sym (c .before .before .u16-at .ensures .0)) ∙ sym (c .before .pattern-past .ensures)
+
+past-left : (c : tie.Else1 Inv-loop μ-loop) → patternPast (now (c .before .before .before .before .before .before .args .file)) (pointerAt (now (c .before .before .before .before .before .before .args .file)) (c .before .before .before .before .before .before .args .list) (c .before .before .before .before .loop .k)) ≡ c .before .pattern-past .result
+past-left c = ap (patternPast (now (c .before .before .before .before .before .before .args .file))) (sym (c .before .before .u16-at .ensures .0)) ∙ sym (c .before .pattern-past .ensures)
+
+loop-holds : tie.Need-loop-holds Inv-loop μ-loop
+loop-holds c = (omega arith, some-none _)
+
+mul-u16-at : tie.Need-mul-u16-at Inv-loop μ-loop
+mul-u16-at c = search needs
+
+add-u16-at : tie.Need-add-u16-at Inv-loop μ-loop
+add-u16-at c = search needs
+
+u16-at-requires : tie.Need-u16-at-requires Inv-loop μ-loop
+u16-at-requires c κs = search needs
+
+pattern-past-requires : tie.Need-pattern-past-requires Inv-loop μ-loop
+pattern-past-requires c κs = search needs
+
+returns : tie.Need-returns Inv-loop μ-loop
+unfolding patternsPast
+returns c =
+    let a = c .before .before .before .before .before .before .args in
+    sym (some-found (λ i. patternPast (now (a .file)) (pointerAt (now (a .file)) (a .list) i)) (a .n) (c .before .before .before .before .loop .k) (c .before .before .before .loop-test .taken) (past c ∙ c .if1 .taken))
+
+add-k : tie.Need-add-k Inv-loop μ-loop
+add-k c = search needs
+
+loop-less : tie.Need-loop-less Inv-loop μ-loop
+loop-less c = search needs
+
+loop-again : tie.Need-loop-again Inv-loop μ-loop
+loop-again c =
+    let l = c .before .before .before .before .loop in
+    (omega arith, some-next _ (l .k) (l .inv .1) (past-left c ∙ c .if1 .left))
+
+returns-2 : tie.Need-returns-2 Inv-loop μ-loop
+unfolding patternsPast
+returns-2 c =
+    let a = c .before .before .before .args in
+    let l = c .before .loop in
+    let e : l .k ≡ a .n = omega arith in
+    sym (l .inv .1) ∙ ap (λ (m : ℕ). some m (λ i. patternPast (now (a .file)) (pointerAt (now (a .file)) (a .list) i))) e
+
+pub patterns-past-spec : {M : Type 1} → statement M
+patterns-past-spec =
+    tie.close
+    (tie.spec
+    Inv-loop
+    μ-loop
+    loop-holds
+    mul-u16-at
+    add-u16-at
+    u16-at-requires
+    pattern-past-requires
+    returns
+    add-k
+    loop-less
+    loop-again
+    returns-2)

@@ -1,0 +1,92 @@
+// The opening values of a file: flags, levels, channel settings and pans.
+ghost use mathlib.Core.Path.{_≡_};
+ghost use Prim.Native.Nat.{_+_, _%_, _<_, _≤_};
+ghost use lib.ListN.{length};
+ghost use Rattle.laws.specs.Entries.{tabulate};
+ghost use Rattle.s3m.specs.Layout.{countsOf, panList};
+ghost use Rattle.s3m.specs.Opening.{settingPan, panOf, channelOpening, channelAt, openingOf};
+use packed::entry::bit_of;
+use packed::entry::byte_at;
+use tune::numbers::low_nibble;
+use tune::numbers::u16_at;
+use tune::opening::ChannelOpening;
+use tune::opening::Opening;
+
+fn setting_of(byte: u8) -> u8
+    ensures { λ r. ⌜ r ≡ byte % 128 ⌝ }
+{
+    byte & 127
+}
+
+fn setting_pan(setting: u8) -> u8
+    ensures { λ r. ⌜ r ≡ settingPan setting ⌝ }
+{
+    if setting < 8 {
+        return 3;
+    }
+    if setting < 16 {
+        return 12;
+    }
+    8
+}
+
+fn pan_of(setting: u8, pans: bool, byte: u8) -> u8
+    ensures { λ r. ⌜ r ≡ panOf setting pans byte ⌝ }
+{
+    if pans & (bit_of(byte, 5) == 1) {
+        return low_nibble(byte);
+    }
+    setting_pan(setting)
+}
+
+fn channel_opening(byte: u8, pans: bool, pan: u8) -> ChannelOpening
+    ensures { λ r. ⌜ r ≡ channelOpening byte pans pan ⌝ }
+{
+    let setting = setting_of(byte);
+    ChannelOpening {
+        pan: pan_of(setting, pans, pan),
+        muted: 128 <= byte,
+        right_bank: (8 <= setting) & (setting < 16),
+        adlib: (16 <= setting) & (setting < 32),
+    }
+}
+
+// Channel k, with the pans at a place.
+fn channel_at(file: &[u8], pan_list: usize, k: usize) -> ChannelOpening
+    requires { ⌜ (k < 32) × («pan_list» ≡ panList (countsOf (now file))) × («pan_list» < 1000000) ⌝ }
+    ensures { λ r. ⌜ r ≡ channelAt (now (file .entry)) k ⌝ }
+{
+    let pans = byte_at(file, 53) == 252;
+    channel_opening(byte_at(file, 64 + k), pans, byte_at(file, pan_list + k))
+}
+
+fn channels_of(file: &[u8], pan_list: usize) -> [ChannelOpening; 32]
+    requires { ⌜ («pan_list» ≡ panList (countsOf (now file))) × («pan_list» < 1000000) ⌝ }
+    ensures { λ r. ⌜ r ≡ tabulate 32 (channelAt (now (file .entry))) ⌝ }
+{
+    let mut channels = [channel_opening(0, false, 0); 32];
+    let mut k: usize = 0;
+    while k < 32 {
+        channels[k] = channel_at(file, pan_list, k);
+        k += 1;
+    }
+    channels
+}
+
+// The opening values, with the rate that is handed in.
+pub fn opening_of(file: &[u8], rate: u32, pan_list: usize) -> Opening
+    requires { ⌜ (96 ≤ length (now file)) × («pan_list» ≡ panList (countsOf (now file))) × («pan_list» < 1000000) ⌝ }
+    ensures { λ r. ⌜ r ≡ openingOf (now (file .entry)) rate ⌝ }
+{
+    let channels = channels_of(file, pan_list);
+    let flags = file[38];
+    Opening {
+        speed: file[49],
+        tempo: file[50],
+        global_volume: file[48],
+        rate,
+        amiga_limits: bit_of(flags, 4) == 1,
+        fast_slides: (bit_of(flags, 6) == 1) | (u16_at(file, 40) == 0x1300),
+        channels,
+    }
+}
