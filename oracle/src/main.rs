@@ -3,6 +3,7 @@
 mod archive;
 mod cover;
 mod example;
+mod files;
 mod generate;
 mod powf;
 mod random;
@@ -28,6 +29,8 @@ mod patch;
 #[cfg(test)]
 mod path;
 #[cfg(test)]
+mod reader_tests;
+#[cfg(test)]
 mod tests;
 
 // The original's modules header, opl2, pattern and player, patched by build.rs.
@@ -41,6 +44,7 @@ const USAGE: &str = "usage: oracle/run sheet < FILE
        oracle/run readers < FILE
        oracle/run example worked > FILE
        oracle/run record DIR | compare DIR | cover DIR | tally DIR
+       oracle/run record-files DIR | compare-files DIR | cover-files DIR | tally-files DIR
        oracle/run show FILE N [ROW]
        oracle/run powf";
 
@@ -55,6 +59,10 @@ fn main() -> ExitCode {
         ["compare", dir] => record::compare(Path::new(dir)).map(String::into_bytes),
         ["tally", dir] => tally::report(Path::new(dir)).map(String::into_bytes),
         ["cover", dir] => cover::report(Path::new(dir)).map(String::into_bytes),
+        ["record-files", dir] => files::record::record(Path::new(dir)).map(String::into_bytes),
+        ["compare-files", dir] => files::record::compare(Path::new(dir)).map(String::into_bytes),
+        ["tally-files", dir] => files::tally::report(Path::new(dir)).map(String::into_bytes),
+        ["cover-files", dir] => files::cover::report(Path::new(dir)).map(String::into_bytes),
         ["show", file, ref place @ ..] => show(file, place).map(String::into_bytes),
         ["powf"] => Ok(powf::report().into_bytes()),
         _ => Err(USAGE.to_string()),

@@ -14,7 +14,24 @@ pub struct Counts {
     pub patterns: usize,
 }
 
+/// The lengths in bytes of the tables that Read is lent.
+#[derive(Clone, Copy, Debug, PartialEq, Eq)]
+pub struct Lent {
+    pub orders: usize,
+    pub samples: usize,
+    pub cells: usize,
+}
+
 impl Counts {
+    /// The lengths that the counts need.
+    pub fn needs(&self) -> Lent {
+        Lent {
+            orders: self.orders,
+            samples: self.instruments * SAMPLE_BYTES,
+            cells: self.patterns * PATTERN_BYTES,
+        }
+    }
+
     fn instrument_pointers(&self) -> usize {
         HEADER_BYTES + self.orders
     }
@@ -54,6 +71,14 @@ pub fn measure(file: &[u8]) -> Result<Counts, u8> {
         return Err(5);
     }
     Ok(counts)
+}
+
+/// Refusals 1 to 8 in order, else the tune: Read with tables of these lengths.
+pub fn read_lent(file: &[u8], lent: &Lent, rate: u32) -> Result<Tune, u8> {
+    if measure(file)?.needs() != *lent {
+        return Err(6);
+    }
+    read(file, rate)
 }
 
 /// Refusals 1 to 5, 7 and 8 in order, else the tune. There is no 6: the tables are

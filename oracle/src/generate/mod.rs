@@ -1,6 +1,7 @@
 //! Random tunes and states, everything from a seed.
 
 mod cells;
+pub mod files;
 mod infos;
 mod states;
 mod tables;

@@ -1,0 +1,50 @@
+-- `replay_files::tally::print_reads` meets its contract. Assumes nothing.
+use borrow.Author.Needs.{needs}
+use Prim.Native.Nat.{_≤_, _-_}
+use Rattle.replay_files.proofs.tally.print_reads.Statement.{statement}
+use Rattle.replay_files.proofs.tally.print_reads.Tie as tie
+
+abbrev Inv-loop : tie.InvT-loop
+Inv-loop counts number₀ t3 number = number ≤ 9
+
+abbrev μ-loop : tie.MeasureT-loop
+μ-loop counts number₀ t3 number = 9 - number
+
+loop-holds : tie.Need-loop-holds Inv-loop μ-loop
+loop-holds c = search needs
+
+slice-aggregate-print-number : tie.Need-slice-aggregate-print-number Inv-loop μ-loop
+slice-aggregate-print-number c = search needs
+
+add-print-number : tie.Need-add-print-number Inv-loop μ-loop
+add-print-number c = search needs
+
+print-number-requires : tie.Need-print-number-requires Inv-loop μ-loop
+print-number-requires c κs = search needs
+
+add-number : tie.Need-add-number Inv-loop μ-loop
+add-number c = search needs
+
+loop-less : tie.Need-loop-less Inv-loop μ-loop
+loop-less c = search needs
+
+loop-again : tie.Need-loop-again Inv-loop μ-loop
+loop-again c = search needs
+
+returns : tie.Need-returns Inv-loop μ-loop
+returns c = search needs
+
+pub print-reads-spec : {M : Type 1} → statement M
+print-reads-spec =
+    tie.close
+    (tie.spec
+    Inv-loop
+    μ-loop
+    loop-holds
+    slice-aggregate-print-number
+    add-print-number
+    print-number-requires
+    add-number
+    loop-less
+    loop-again
+    returns)
