@@ -1,0 +1,3 @@
+pub mod Steps
+pub mod Lengths
+pub mod Named

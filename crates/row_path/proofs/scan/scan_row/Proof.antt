@@ -1,0 +1,58 @@
+-- `row_path::scan::scan_row` meets its contract. Assumes nothing.
+use borrow.Author.Needs.{needs}
+use mathlib.Core.Path.{_≡_, refl, sym, _∙_}
+use Prim.Native.Nat.{_≤_, _-_}
+use native.Mathlib.Omega.{arith}
+use Rattle.row_path.specs.Scan.{scanned}
+use Rattle.row_path.proofs.Steps.{scan-more}
+use Rattle.row_path.proofs.scan.scan_row.Statement.{statement}
+use Rattle.row_path.proofs.scan.scan_row.Tie as tie
+
+abbrev Inv-loop : tie.InvT-loop
+Inv-loop row a₀ i₀ a i = (i ≤ 32) × (a ≡ scanned row i a₀)
+
+abbrev μ-loop : tie.MeasureT-loop
+μ-loop row a₀ i₀ a i = 32 - i
+
+first-scan-requires : tie.Need-first-scan-requires Inv-loop μ-loop
+first-scan-requires c κs = search needs
+
+loop-holds : tie.Need-loop-holds Inv-loop μ-loop
+unfolding scanned
+loop-holds c = (omega arith, refl)
+
+cell-of-requires : tie.Need-cell-of-requires Inv-loop μ-loop
+cell-of-requires c κs = search needs
+
+hear-requires : tie.Need-hear-requires Inv-loop μ-loop
+hear-requires c κs = search needs
+
+add-i : tie.Need-add-i Inv-loop μ-loop
+add-i c = search needs
+
+loop-less : tie.Need-loop-less Inv-loop μ-loop
+loop-less c = search needs
+
+loop-again : tie.Need-loop-again Inv-loop μ-loop
+loop-again c = (omega arith, c .hear .ensures ∙ rw (c .before .cell-of .ensures, c .before .before .before .loop .inv .1) (sym (scan-more _ _ _)))
+
+returns : tie.Need-returns Inv-loop μ-loop
+returns c =
+    let l = c .before .loop in
+    let e : l .i ≡ 32 = omega arith in
+    l .inv .1 ∙ rw (e, c .before .before .first-scan .ensures)
+
+pub scan-row-spec : {M : Type 1} → statement M
+scan-row-spec =
+    tie.close
+    (tie.spec
+    Inv-loop
+    μ-loop
+    first-scan-requires
+    loop-holds
+    cell-of-requires
+    hear-requires
+    add-i
+    loop-less
+    loop-again
+    returns)
