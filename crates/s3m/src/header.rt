@@ -5,7 +5,7 @@ ghost use lib.ListN.{length, getD};
 ghost use Rattle.laws.specs.Refusals.{refuse, orElse};
 ghost use Rattle.s3m.specs.Layout.{countsOf, listsEnd};
 ghost use Rattle.s3m.specs.Refusals.{rule1, rule2, rule3, rule4, rule5, headerRule, measureRule};
-ghost use Rattle.s3m.specs.Answers.{measured};
+ghost use Rattle.s3m.specs.Answers.{measured, measuredNumber};
 use tune::numbers::u16_at;
 use tune::numbers::u32_at;
 use tune::opening::levels_broken;
@@ -109,6 +109,7 @@ pub fn measure_rule(file: &[u8]) -> u8
 // Measure: the numbers of orders, instruments and patterns, or why not.
 pub fn measure(file: &[u8]) -> Measured
     ensures { λ r. ⌜ r ≡ measured (now (file .entry)) ⌝ }
+    ensures { λ r. ⌜ measuredNumber r ≡ measureRule (now (file .entry)) ⌝ }
 {
     let refused = measure_rule(file);
     if refused != 0 {

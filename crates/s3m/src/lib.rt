@@ -9,7 +9,7 @@ ghost use Prim.Native.Nat.{_+_, _*_, _≤_, _<_};
 ghost use lib.ListN.{length};
 ghost use Rattle.s3m.specs.Layout.{countsOf, bytesAt};
 ghost use Rattle.s3m.specs.Refusals.{rule6, measureRule, tablesRule, readRule};
-ghost use Rattle.s3m.specs.Answers.{blankOpening, refusalOf, reading, ordersAfter, samplesAfter, cellsAfter};
+ghost use Rattle.s3m.specs.Answers.{blankOpening, refusalOf, reading, readNumber, ordersAfter, samplesAfter, cellsAfter};
 use header::Counts;
 use header::counts_of;
 use header::first_of;
@@ -108,6 +108,7 @@ pub fn read(
     cells: &mut [u8],
 ) -> Reading
     ensures { λ r. ⌜ r ≡ reading (now (file .entry)) rate (refusalOf (now (file .entry)) (now (orders .entry)) (now (samples .entry)) (now (cells .entry))) ⌝ }
+    ensures { λ r. ⌜ readNumber (r .answer) ≡ refusalOf (now (file .entry)) (now (orders .entry)) (now (samples .entry)) (now (cells .entry)) ⌝ }
     ensures { λ _. ⌜ now (orders .exit) ≡ ordersAfter (now (file .entry)) (refusalOf (now (file .entry)) (now (orders .entry)) (now (samples .entry)) (now (cells .entry))) (now (orders .entry)) ⌝ }
     ensures { λ _. ⌜ now (samples .exit) ≡ samplesAfter (now (file .entry)) (refusalOf (now (file .entry)) (now (orders .entry)) (now (samples .entry)) (now (cells .entry))) (now (samples .entry)) ⌝ }
     ensures { λ _. ⌜ now (cells .exit) ≡ cellsAfter (now (file .entry)) (refusalOf (now (file .entry)) (now (orders .entry)) (now (samples .entry)) (now (cells .entry))) (now (cells .entry)) ⌝ }
