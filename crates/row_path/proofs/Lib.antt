@@ -1,3 +1,10 @@
 pub mod Steps
 pub mod Lengths
 pub mod Named
+pub mod Ends
+pub mod Kept
+pub mod Unmoved
+pub mod ReadsOnly
+pub mod Walks
+pub mod SoundWalks
+pub mod Marked

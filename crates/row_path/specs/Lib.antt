@@ -4,3 +4,6 @@ pub mod Scan
 pub mod Loops
 pub mod Enter
 pub mod Leave
+pub mod Sound
+pub mod Steering
+pub mod Walk

@@ -37,10 +37,11 @@ pub fn scope(l: PatternLoop, order: u8) -> PatternLoop
     if is_at(own, order) {
         return l;
     }
+    let count = ByteOption::None;
     PatternLoop {
         order: ByteOption::Some(order),
         start_row: 0,
-        count: ByteOption::None,
+        count,
     }
 }
 

@@ -1,0 +1,39 @@
+-- What rules 9 and 11 settle of a path, and every enter and leave keeps (01, 'Why a call says no'). Assumes nothing.
+use Prim.Native.Nat.{ℕ, _≤_, _<_}
+use mathlib.Core.List.{List}
+use lib.ListN.{getD}
+use Rattle.row_path.specs.declared.option.ByteOption.{ByteOption}
+use Rattle.row_path.specs.declared.option.ByteOption.the-variants.{None, Some}
+use Rattle.row_path.specs.declared.loops.Jump.{Jump}
+use Rattle.row_path.specs.declared.loops.Jump.the-variants.{Stay, To}
+use Rattle.row_path.specs.declared.machine.Path.{Path}
+use Rattle.row_path.specs.declared.machine.Entered.{Entered}
+
+-- row and loop start at most 63, speed at least 1, tempo at least 32, the rate in range; order and speed are bytes
+pub record Sound (p : Path) : Type 0 where
+  pub order : p .place .order ≤ 255
+  pub row : p .place .row ≤ 63
+  pub start-row : p .«pattern_loop» .«start_row» ≤ 63
+  pub slow : 1 ≤ p .clock .speed
+  pub fast : p .clock .speed ≤ 255
+  pub tempo : 32 ≤ p .clock .tempo
+  pub moves : 1 ≤ p .clock .rate
+  pub rate : p .clock .rate ≤ 100000
+
+-- an absent byte, or one of at most n
+abbrev pub AtMost : ℕ → ByteOption → Type 0
+AtMost n None = Unit
+AtMost n (Some x) = x ≤ n
+
+-- a jump goes to a byte's order and to a row of a pattern
+abbrev pub SoundJump : Jump → Type 0
+SoundJump Stay = Unit
+SoundJump (To order row) = AtMost 255 order × (row ≤ 63)
+
+pub record SoundEntered (e : Entered) : Type 0 where
+  pub path : Sound (e .path)
+  pub jump : SoundJump (e .jump)
+
+-- a table of bytes
+abbrev pub Bytes : List ℕ → Type 0
+Bytes s = (k : ℕ) → getD s k 0 < 256
