@@ -1,0 +1,12 @@
+pub mod Falling
+pub mod Same
+pub mod Rounded
+pub mod Narrowing
+pub mod Exact
+pub mod Division
+pub mod NoNan
+pub mod Factors
+pub mod Clamped
+pub mod Numbers
+pub mod Offsets
+pub mod Marked

@@ -1,0 +1,6 @@
+pub mod Periods
+pub mod Frequency
+pub mod Slides
+pub mod Limits
+pub mod Offset
+pub mod Finetune
