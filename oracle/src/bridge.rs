@@ -1,5 +1,6 @@
 //! Inside the original's player module: runs its private `enter_row` and `next_row` on
-//! any tune and state. build.rs appends this module to the patched player.rs.
+//! any tune and state, and its private pitch functions. build.rs appends this module to
+//! the patched player.rs.
 
 use super::{Channel, Jump, PendingTrigger, PlayerState, Waveform};
 use crate::opl2::{AdLibInstrument, OperatorCore, OplVoice};
@@ -159,6 +160,27 @@ pub fn open(tune: &Tune) -> State {
         entered: None,
         channels: std::array::from_fn(channel),
     }
+}
+
+pub fn note_to_frequency(note: u8, c5: u32) -> f32 {
+    super::note_to_frequency(note, c5)
+}
+
+pub fn resolve_sample_offset(offset: u32, looped: bool, start: u32, end: u32, length: u32) -> f64 {
+    super::resolve_sample_offset(offset.into(), start, end, length as usize, looped)
+}
+
+/// `clamp_amiga` on a channel with this frequency, which is its target too.
+pub fn clamp_amiga(frequency: f32, on: bool) -> f32 {
+    let mut channel = Channel {
+        frequency,
+        target_frequency: frequency,
+        ..Channel::default()
+    };
+    PlayerState::clamp_amiga(&mut channel, on);
+    let limited = [channel.frequency, channel.target_frequency].map(f32::to_bits);
+    assert_eq!(limited[0], limited[1]);
+    channel.frequency
 }
 
 fn pattern(tune: &Tune, index: usize) -> Pattern {

@@ -5,11 +5,14 @@ mod cover;
 mod example;
 mod files;
 mod generate;
+mod met;
+mod pitch;
 mod powf;
 mod random;
 mod reader;
 mod readers;
 mod record;
+mod replay;
 mod sheet;
 mod show;
 mod state;
@@ -45,6 +48,9 @@ const USAGE: &str = "usage: oracle/run sheet < FILE
        oracle/run example worked > FILE
        oracle/run record DIR | compare DIR | cover DIR | tally DIR
        oracle/run record-files DIR | compare-files DIR | cover-files DIR | tally-files DIR
+       oracle/run record-pitch DIR | compare-pitch DIR | tally-pitch DIR
+       oracle/run replay-pitch PROGRAM [SEED]
+       oracle/run replay SEED TUNES VISITS [PROGRAM]
        oracle/run show FILE N [ROW]
        oracle/run powf";
 
@@ -63,6 +69,13 @@ fn main() -> ExitCode {
         ["compare-files", dir] => files::record::compare(Path::new(dir)).map(String::into_bytes),
         ["tally-files", dir] => files::tally::report(Path::new(dir)).map(String::into_bytes),
         ["cover-files", dir] => files::cover::report(Path::new(dir)).map(String::into_bytes),
+        ["record-pitch", dir] => pitch::record(Path::new(dir)).map(String::into_bytes),
+        ["compare-pitch", dir] => pitch::compare(Path::new(dir)).map(String::into_bytes),
+        ["tally-pitch", dir] => pitch::tally(Path::new(dir)).map(String::into_bytes),
+        ["replay-pitch", ref words @ ..] => pitch::replay(words).map(String::into_bytes),
+        ["replay", seed, tunes, visits, ref program @ ..] => {
+            replay([seed, tunes, visits], program).map(String::into_bytes)
+        }
         ["show", file, ref place @ ..] => show(file, place).map(String::into_bytes),
         ["powf"] => Ok(powf::report().into_bytes()),
         _ => Err(USAGE.to_string()),
@@ -82,6 +95,21 @@ fn show(file: &str, place: &[&str]) -> Result<String, String> {
     match numbers.as_deref() {
         Ok([tune]) => show::show(Path::new(file), *tune, None),
         Ok([tune, row]) => show::show(Path::new(file), *tune, Some(*row)),
+        _ => Err(USAGE.to_string()),
+    }
+}
+
+/// Streams fresh tunes to the program `replay`, the built one or the one named.
+fn replay([seed, tunes, visits]: [&str; 3], program: &[&str]) -> Result<String, String> {
+    let program = match *program {
+        [] => replay::PROGRAM,
+        [program] => program,
+        _ => return Err(USAGE.to_string()),
+    };
+    match (seed.parse(), tunes.parse(), visits.parse()) {
+        (Ok(seed), Ok(tunes), Ok(visits)) => {
+            replay::report(Path::new(program), seed, tunes, visits)
+        }
         _ => Err(USAGE.to_string()),
     }
 }

@@ -1,9 +1,11 @@
 //! Makes the recorded answers: the files `visits` and `walks`, each tune and its rows
 //! from its seed alone. README.md gives the layout.
 
+use crate::archive::{Visit, Walk};
 use crate::generate::{self, Purpose};
 use crate::player::bridge::Original;
 use crate::random::Random;
+use crate::state::State;
 use crate::tune::Tune;
 use crate::walk;
 use std::fs;
@@ -56,8 +58,7 @@ fn all(seeds: std::ops::Range<u64>, one: fn(u64) -> Vec<u8>) -> Vec<u8> {
     out
 }
 
-/// A tune and its visits: the state before, the state entered, the head of the state
-/// left. Where entering ends the tune there is no leaving, and the last two are one.
+/// A tune and its visits.
 fn visits(seed: u64) -> Vec<u8> {
     let random = &mut Random::new(seed);
     let tune = generate::tune(random, Purpose::Visits, seed);
@@ -65,40 +66,69 @@ fn visits(seed: u64) -> Vec<u8> {
     let mut out = tune_part(&tune, VISITS_A_TUNE, seed);
     for _ in 0..VISITS_A_TUNE {
         let before = generate::odd_state(random, &tune);
-        let entered = original.enter(&before);
-        let left = if entered.ended {
-            entered.clone()
-        } else {
-            original.leave(&entered)
-        };
-        out.extend(before.encode());
-        out.extend(entered.encode());
-        out.extend(left.encode_head());
+        out.extend(visit_part(&visit(&mut original, before)));
     }
     out
 }
 
-/// A tune and its walk: the records, then the whole last state.
+/// A tune and its walk.
 fn walks(seed: u64) -> Vec<u8> {
     let tune = generate::tune(&mut Random::new(seed), Purpose::Walks, seed);
-    let mut records = Vec::new();
-    let last = walk::rows(&tune, MOST_ROWS, |_, entered| {
-        records.extend(walk::record(entered));
-    });
-    let rows = records.len() / walk::RECORD_BYTES;
-    let mut out = tune_part(&tune, rows as u16, seed);
-    out.extend(records);
-    out.extend(last.encode());
+    let walk = walk(&tune);
+    let mut out = tune_part(&tune, walk.records.len() as u16, seed);
+    out.extend(walk_part(&walk));
     out
 }
 
-fn tune_part(tune: &Tune, visits: u16, seed: u64) -> Vec<u8> {
+/// Where entering ends the tune there is no leaving, and the head left is that of the
+/// state entered.
+pub fn visit(original: &mut Original, before: State) -> Visit {
+    let entered = original.enter(&before);
+    let left = if entered.ended {
+        entered.encode_head()
+    } else {
+        original.leave(&entered).encode_head()
+    };
+    Visit {
+        before,
+        entered,
+        left: left.to_vec(),
+    }
+}
+
+pub fn walk(tune: &Tune) -> Walk {
+    let mut records = Vec::new();
+    let last = walk::rows(tune, MOST_ROWS, |_, entered| {
+        records.push(walk::record(entered));
+    });
+    Walk { records, last }
+}
+
+/// The state before, the state entered, the head of the state left.
+pub fn visit_part(visit: &Visit) -> Vec<u8> {
+    [
+        visit.before.encode(),
+        visit.entered.encode(),
+        visit.left.clone(),
+    ]
+    .concat()
+}
+
+/// The records, then the whole last state.
+pub fn walk_part(walk: &Walk) -> Vec<u8> {
+    let mut out = walk.records.concat();
+    out.extend(walk.last.encode());
+    out
+}
+
+/// A tune's head and tables; so many visits or records follow.
+pub fn tune_part(tune: &Tune, rows: u16, seed: u64) -> Vec<u8> {
     let counts = [tune.orders.len(), tune.sample_count(), tune.patterns()];
     let mut out: Vec<u8> = counts
         .iter()
         .flat_map(|&n| (n as u16).to_le_bytes())
         .collect();
-    out.extend(visits.to_le_bytes());
+    out.extend(rows.to_le_bytes());
     out.extend(seed.to_le_bytes());
     out.extend(tune.opening.encode());
     out.extend(&tune.orders);

@@ -1,13 +1,13 @@
 //! Counts what the recorded files hold, in the words of the program `replay`, whose
 //! expected output this is: the two read the same bytes and share no code.
 
-use crate::archive::{self, Recorded};
+use crate::archive::{self, Recorded, Visit, Walk};
 use crate::tune::Tune;
 use std::path::Path;
 
 /// The counters of one file.
 #[derive(Default)]
-struct Tally {
+pub struct Tally {
     tunes: u64,
     refused: u64,
     samples: u64,
@@ -18,6 +18,7 @@ struct Tally {
     held: u64,
     ended: u64,
     commands: [u64; 28],
+    compared: u64,
 }
 
 pub fn report(dir: &Path) -> Result<String, String> {
@@ -25,23 +26,24 @@ pub fn report(dir: &Path) -> Result<String, String> {
     for Recorded { tune, answers, .. } in archive::visits(&dir.join("visits"))? {
         visits.tables(&tune);
         for visit in answers {
-            let entered = visit.entered.encode();
-            let held = visit.before.encode()[8] != 0;
-            visits.visit(&tune, entered[19], entered[1], held);
+            visits.visit(&tune, &visit);
         }
     }
     let mut walks = Tally::default();
     for Recorded { tune, answers, .. } in archive::walks(&dir.join("walks"))? {
         walks.tables(&tune);
-        for record in answers.records {
-            walks.visit(&tune, record[1], record[2], record[3] != 0);
-        }
+        walks.walk(&tune, &answers);
     }
-    Ok(format!("visits\n{}walks\n{}", visits.text(), walks.text()))
+    Ok(text(&visits, &walks))
+}
+
+/// What `replay` prints of the two files.
+pub fn text(visits: &Tally, walks: &Tally) -> String {
+    format!("visits\n{}walks\n{}", visits.text(), walks.text())
 }
 
 impl Tally {
-    fn tables(&mut self, tune: &Tune) {
+    pub fn tables(&mut self, tune: &Tune) {
         self.tunes += 1;
         self.refused += u64::from(!tune.is_accepted());
         for sample in (0..tune.sample_count()).map(|index| tune.sample(index)) {
@@ -52,8 +54,25 @@ impl Tally {
         }
     }
 
+    /// The path is compared at the state entered and, where the tune goes on, at the one left.
+    pub fn visit(&mut self, tune: &Tune, visit: &Visit) {
+        let entered = visit.entered.encode_head();
+        let held = visit.before.replaying_for_pattern_delay;
+        self.row(tune, entered[19], entered[1], held);
+        self.compared += 1 + u64::from(!visit.entered.ended);
+    }
+
+    /// The path is compared at each record and at the last state.
+    pub fn walk(&mut self, tune: &Tune, walk: &Walk) {
+        for record in &walk.records {
+            self.row(tune, record[1], record[2], record[3] != 0);
+            self.compared += 1;
+        }
+        self.compared += 1;
+    }
+
     /// A held visit reads no cell; pattern 255 says that entering ended the tune.
-    fn visit(&mut self, tune: &Tune, pattern: u8, row: u8, held: bool) {
+    fn row(&mut self, tune: &Tune, pattern: u8, row: u8, held: bool) {
         self.visits += 1;
         if held {
             self.held += 1;
@@ -84,6 +103,7 @@ impl Tally {
         for (command, count) in self.commands[..27].iter().enumerate() {
             out += &format!("command {command}: {count}\n");
         }
-        out + &format!("other commands: {}\n", self.commands[27])
+        out += &format!("other commands: {}\n", self.commands[27]);
+        out + &format!("paths compared: {}\npath differences: 0\n", self.compared)
     }
 }

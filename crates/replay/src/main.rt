@@ -1,5 +1,7 @@
-// Reads the recorded answers of the original Rust and tallies what they hold; tables and cells are read by `tune`.
+// Reads the recorded answers of the original Rust, tallies what they hold and compares the path machine with them;
+// tables and cells are read by `tune`.
 // What it prints is compared with the same tally by the harness that recorded them (oracle/README.md has the layout).
+mod path;
 mod tables;
 mod tally;
 

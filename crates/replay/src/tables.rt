@@ -2,7 +2,15 @@
 ghost use mathlib.Core.Path.{_≡_};
 ghost use Prim.Native.Nat.{_+_, _*_, _≤_, _<_};
 ghost use lib.ListN.{length};
+use crate::path::HEAD;
+use crate::path::RECORD;
+use crate::path::STATE;
+use crate::path::compare_last;
+use crate::path::compare_row;
+use crate::path::compare_visit;
+use crate::path::opened;
 use crate::tally;
+use row_path::machine::Path;
 use tune::cells::cell_of;
 use tune::cells::row_cells;
 use tune::numbers::u16_at;
@@ -15,13 +23,6 @@ use tune::samples::Sample;
 use tune::samples::SampleOption;
 use tune::samples::sample_of;
 use tune::sizes::sizes_rule;
-
-// Bytes of a recorded state, of its head, and of a record.
-const STATE: usize = 2368;
-
-const HEAD: usize = 64;
-
-const RECORD: usize = 536;
 
 // Room for what is read. The contracts give the lengths alone: the zeros would stand in each goal.
 fn head_room() -> [u8; 16]
@@ -42,6 +43,12 @@ fn state_room() -> [u8; STATE]
     [0; STATE]
 }
 
+fn left_room() -> [u8; HEAD]
+    ensures { λ r. ⌜ 64 ≡ length r ⌝ }
+{
+    [0; HEAD]
+}
+
 fn record_room() -> [u8; RECORD]
     ensures { λ r. ⌜ 536 ≡ length r ⌝ }
 {
@@ -50,6 +57,17 @@ fn record_room() -> [u8; RECORD]
 
 fn read_exact(fd: i32, buf: &mut [u8]) -> bool {
     io::read_full(fd, buf) == buf.len()
+}
+
+// The three parts of a visit, one behind the other.
+fn read_parts(fd: i32, before: &mut [u8], entered: &mut [u8], left: &mut [u8]) -> bool {
+    if !read_exact(fd, before) {
+        return false;
+    }
+    if !read_exact(fd, entered) {
+        return false;
+    }
+    read_exact(fd, left)
 }
 
 fn channel_of(bytes: &[u8], channel: usize) -> ChannelOpening
@@ -113,56 +131,78 @@ fn tally_visit(cells: &[u8], pattern: u8, row: u8, held: u8, counts: &mut [u64])
 }
 
 // A visit: the state before, the state entered, and the head of the state left.
-fn read_visit(fd: i32, cells: &[u8], counts: &mut [u64]) -> bool {
+fn read_visit(fd: i32, orders: &[u8], cells: &[u8], counts: &mut [u64]) -> bool {
     let mut before = state_room();
     let mut entered = state_room();
-    if !read_exact(fd, &mut before) {
-        return false;
-    }
-    if !read_exact(fd, &mut entered) {
+    let mut left = left_room();
+    if !read_parts(fd, &mut before, &mut entered, &mut left) {
         return false;
     }
     tally_visit(cells, entered[19], entered[1], before[8], counts);
-    read_first(fd, &mut before, HEAD)
-}
-
-// A row of a walk: its record.
-fn read_row(fd: i32, cells: &[u8], counts: &mut [u64]) -> bool {
-    let mut record = record_room();
-    if !read_exact(fd, &mut record) {
-        return false;
-    }
-    tally_visit(cells, record[1], record[2], record[3], counts);
+    compare_visit(orders, cells, &before, &entered, &left, counts);
     true
 }
 
-fn read_answer(fd: i32, walks: bool, cells: &[u8], counts: &mut [u64]) -> bool {
-    if walks {
-        return read_row(fd, cells, counts);
-    }
-    read_visit(fd, cells, counts)
-}
-
-// The state behind a walk.
-fn read_last(fd: i32, walks: bool) -> bool {
-    if walks {
-        let mut state = state_room();
-        return read_exact(fd, &mut state);
-    }
-    true
-}
-
-// The visits of a tune, or the rows of its walk and the state behind them.
-fn tally_visits(fd: i32, walks: bool, visits: usize, cells: &[u8], counts: &mut [u64]) -> bool {
+fn tally_visits(fd: i32, visits: usize, orders: &[u8], cells: &[u8], counts: &mut [u64]) -> bool {
     let mut n: usize = 0;
     while n < visits {
-        let whole = read_answer(fd, walks, cells, counts);
-        if !whole {
+        if !read_visit(fd, orders, cells, counts) {
             return false;
         }
         n += 1;
     }
-    read_last(fd, walks)
+    true
+}
+
+// The path behind a row of a walk; `whole` is false where the row is cut short.
+struct Walked {
+    whole: bool,
+    path: Path,
+}
+
+// A row of a walk: its record.
+fn read_row(fd: i32, path: Path, orders: &[u8], cells: &[u8], counts: &mut [u64]) -> Walked {
+    let mut record = record_room();
+    if !read_exact(fd, &mut record) {
+        return Walked { whole: false, path };
+    }
+    tally_visit(cells, record[1], record[2], record[3], counts);
+    Walked {
+        whole: true,
+        path: compare_row(orders, cells, path, &record, counts),
+    }
+}
+
+// The state behind a walk.
+fn read_last(fd: i32, path: Path, orders: &[u8], cells: &[u8], counts: &mut [u64]) -> bool {
+    let mut state = state_room();
+    if !read_exact(fd, &mut state) {
+        return false;
+    }
+    compare_last(orders, cells, path, &state, counts);
+    true
+}
+
+// The rows of a walk, and the state behind them.
+fn tally_walk(
+    fd: i32,
+    rows: usize,
+    opened: Path,
+    orders: &[u8],
+    cells: &[u8],
+    counts: &mut [u64],
+) -> bool {
+    let mut path = opened;
+    let mut n: usize = 0;
+    while n < rows {
+        let row = read_row(fd, path, orders, cells, counts);
+        if !row.whole {
+            return false;
+        }
+        path = row.path;
+        n += 1;
+    }
+    read_last(fd, path, orders, cells, counts)
 }
 
 fn tally_samples(samples: &[u8], counts: &mut [u64]) {
@@ -210,6 +250,22 @@ fn read_first(fd: i32, table: &mut [u8], n: usize) -> bool {
     read_exact(fd, &mut table[..n])
 }
 
+fn read_tables(
+    fd: i32,
+    head: Head,
+    orders: &mut [u8],
+    samples: &mut [u8],
+    cells: &mut [u8],
+) -> bool {
+    if !read_first(fd, orders, head.orders) {
+        return false;
+    }
+    if !read_first(fd, samples, head.samples) {
+        return false;
+    }
+    read_first(fd, cells, head.cells)
+}
+
 fn first(table: &[u8], n: usize) -> &[u8] {
     if table.len() < n {
         return table;
@@ -217,8 +273,21 @@ fn first(table: &[u8], n: usize) -> &[u8] {
     &table[..n]
 }
 
-// What a tune's tables hold, then its visits. The tables are at the start of larger buffers.
-fn tally_tables(
+// What a tune's tables hold, and whether rule 9 or 10 refuses them.
+fn tally_tables(opening: Opening, orders: &[u8], samples: &[u8], cells: &[u8], counts: &mut [u64]) {
+    let sizes = sizes_rule(orders, cells, samples);
+    let values = opening_rule(opening);
+    tally::add(counts, tally::TUNES, 1);
+    tally::add(
+        counts,
+        tally::REFUSED,
+        ((sizes != 0) | (values != 0)) as u64,
+    );
+    tally_samples(samples, counts);
+}
+
+// A tune's tables, then its visits or its walk. The tables are at the start of larger buffers.
+fn tally_answers(
     fd: i32,
     walks: bool,
     head: Head,
@@ -233,16 +302,12 @@ fn tally_tables(
     let orders = first(orders, head.orders);
     let samples = first(samples, head.samples);
     let cells = first(cells, head.cells);
-    let sizes = sizes_rule(orders, cells, samples);
-    let values = opening_rule(opening_of(opening));
-    tally::add(counts, tally::TUNES, 1);
-    tally::add(
-        counts,
-        tally::REFUSED,
-        ((sizes != 0) | (values != 0)) as u64,
-    );
-    tally_samples(samples, counts);
-    tally_visits(fd, walks, head.visits, cells, counts)
+    let opening = opening_of(opening);
+    tally_tables(opening, orders, samples, cells, counts);
+    if walks {
+        return tally_walk(fd, head.visits, opened(opening), orders, cells, counts);
+    }
+    tally_visits(fd, head.visits, orders, cells, counts)
 }
 
 // A tune, or false behind the last one, where a head of zeros stands.
@@ -262,16 +327,10 @@ fn tally_tune(fd: i32, walks: bool, counts: &mut [u64]) -> bool {
     if !read_exact(fd, &mut opening) {
         return false;
     }
-    if !read_first(fd, &mut orders, head.orders) {
+    if !read_tables(fd, head, &mut orders, &mut samples, &mut cells) {
         return false;
     }
-    if !read_first(fd, &mut samples, head.samples) {
-        return false;
-    }
-    if !read_first(fd, &mut cells, head.cells) {
-        return false;
-    }
-    tally_tables(fd, walks, head, &opening, &orders, &samples, &cells, counts)
+    tally_answers(fd, walks, head, &opening, &orders, &samples, &cells, counts)
 }
 
 // At most 1,000 tunes: a proved loop ends.

@@ -24,6 +24,10 @@ pub const HELD: usize = 35;
 
 pub const ENDED: usize = 36;
 
+const COMPARED: usize = 37;
+
+const DIFFERENT: usize = 38;
+
 pub fn counters() -> [u64; 40]
     ensures { λ r. ⌜ 40 ≡ length r ⌝ }
 {
@@ -39,6 +43,12 @@ pub fn add(counts: &mut [u64], counter: usize, n: u64) {
         let before = counts[counter];
         counts[counter] = std::num::wrapping_add_u64(before, n);
     }
+}
+
+// Counts a comparison of the path machine with what was recorded.
+pub fn compared(counts: &mut [u64], agrees: bool) {
+    add(counts, COMPARED, 1);
+    add(counts, DIFFERENT, !agrees as u64);
 }
 
 fn print_count(name: &[u8], counts: &[u64], counter: usize) {
@@ -76,4 +86,6 @@ pub fn print(counts: &[u64]) {
     print_count(b"held: ", counts, HELD);
     print_count(b"ended: ", counts, ENDED);
     print_commands(counts);
+    print_count(b"paths compared: ", counts, COMPARED);
+    print_count(b"path differences: ", counts, DIFFERENT);
 }

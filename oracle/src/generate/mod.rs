@@ -4,9 +4,11 @@ mod cells;
 pub mod files;
 mod infos;
 mod states;
+mod steered;
 mod tables;
 
 pub use states::odd_state;
+pub use steered::{steered_state, steered_tune};
 
 use crate::random::Random;
 use crate::tune::Tune;

@@ -7,16 +7,16 @@ use Rattle.replay.proofs.tables.tally_visits.Statement.{statement}
 use Rattle.replay.proofs.tables.tally_visits.Tie as tie
 
 abbrev Inv-loop : tie.InvT-loop
-Inv-loop fd walks visits cells counts₀ n₀ counts n = (n ≤ visits) × (length counts ≡ length counts₀)
+Inv-loop fd visits orders cells counts₀ n₀ counts n = (n ≤ visits) × (length counts ≡ length counts₀)
 
 abbrev μ-loop : tie.MeasureT-loop
-μ-loop fd walks visits cells counts₀ n₀ counts n = visits - n
+μ-loop fd visits orders cells counts₀ n₀ counts n = visits - n
 
 loop-holds : tie.Need-loop-holds Inv-loop μ-loop
 loop-holds c = search needs
 
-read-answer-requires : tie.Need-read-answer-requires Inv-loop μ-loop
-read-answer-requires c κs = search needs
+read-visit-requires : tie.Need-read-visit-requires Inv-loop μ-loop
+read-visit-requires c κs = search needs
 
 same-length : tie.Need-same-length Inv-loop μ-loop
 same-length c = search needs
@@ -33,9 +33,6 @@ loop-less c = search needs
 loop-again : tie.Need-loop-again Inv-loop μ-loop
 loop-again c = search needs
 
-read-last-requires : tie.Need-read-last-requires Inv-loop μ-loop
-read-last-requires c κs = search needs
-
 same-length-2 : tie.Need-same-length-2 Inv-loop μ-loop
 same-length-2 c = search needs
 
@@ -49,12 +46,11 @@ tally-visits-spec =
     Inv-loop
     μ-loop
     loop-holds
-    read-answer-requires
+    read-visit-requires
     same-length
     returns
     add-n
     loop-less
     loop-again
-    read-last-requires
     same-length-2
     returns-2)

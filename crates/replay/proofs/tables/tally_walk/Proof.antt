@@ -1,0 +1,60 @@
+-- `replay::tables::tally_walk` meets its contract. Assumes nothing.
+use borrow.Author.Needs.{needs}
+use Prim.Native.Nat.{_≤_, _-_}
+use mathlib.Core.Path.{_≡_}
+use lib.ListN.{length}
+use Rattle.replay.proofs.tables.tally_walk.Statement.{statement}
+use Rattle.replay.proofs.tables.tally_walk.Tie as tie
+
+abbrev Inv-loop : tie.InvT-loop
+Inv-loop fd rows orders cells counts₀ path₀ n₀ counts path n = (n ≤ rows) × (length counts ≡ length counts₀)
+
+abbrev μ-loop : tie.MeasureT-loop
+μ-loop fd rows orders cells counts₀ path₀ n₀ counts path n = rows - n
+
+loop-holds : tie.Need-loop-holds Inv-loop μ-loop
+loop-holds c = search needs
+
+read-row-requires : tie.Need-read-row-requires Inv-loop μ-loop
+read-row-requires c κs = search needs
+
+same-length : tie.Need-same-length Inv-loop μ-loop
+same-length c = search needs
+
+returns : tie.Need-returns Inv-loop μ-loop
+returns c = search needs
+
+add-n : tie.Need-add-n Inv-loop μ-loop
+add-n c = search needs
+
+loop-less : tie.Need-loop-less Inv-loop μ-loop
+loop-less c = search needs
+
+loop-again : tie.Need-loop-again Inv-loop μ-loop
+loop-again c = search needs
+
+read-last-requires : tie.Need-read-last-requires Inv-loop μ-loop
+read-last-requires c κs = search needs
+
+same-length-2 : tie.Need-same-length-2 Inv-loop μ-loop
+same-length-2 c = search needs
+
+returns-2 : tie.Need-returns-2 Inv-loop μ-loop
+returns-2 c = search needs
+
+pub tally-walk-spec : {M : Type 1} → statement M
+tally-walk-spec =
+    tie.close
+    (tie.spec
+    Inv-loop
+    μ-loop
+    loop-holds
+    read-row-requires
+    same-length
+    returns
+    add-n
+    loop-less
+    loop-again
+    read-last-requires
+    same-length-2
+    returns-2)
