@@ -1,12 +1,38 @@
--- A loop that replaces each entry of a list in turn: what is done and what is left make the whole. Assumes nothing.
+-- A list whose entries are replaced, by index; and a loop that replaces each in turn. Assumes nothing.
 use Prim.Native.Nat.{ℕ, zero, suc, _+_, _<_}
 use native.Mathlib.Numerals.{add-one}
-use native.Mathlib.Nat.{le-refl}
-use mathlib.Core.Path.{_≡_, refl}
+use native.Mathlib.Nat.{le-refl, zero-add}
+use native.Mathlib.Omega.{arith}
+use mathlib.Core.Path.{_≡_, refl, sym, ap, _∙_}
 use mathlib.Core.List.{List, [], _∷_, _++_, append-assoc, append-nil}
 use lib.ListN.{length, take, drop, getD, set}
-use lib.Seq.{drop-cons, take-suc-set, drop-set-lt, take-length, drop-length}
+use lib.Seq.{ext-getD, drop-cons, take-suc-set, drop-set-lt, take-length, drop-length}
 use Rattle.laws.specs.Entries.{mapFrom}
+
+module _ {X : Type 0} where
+  -- a mapped list is as long
+  pub map-length : (f : ℕ → X → X) (i : ℕ) (l : List X) → length (mapFrom f i l) ≡ length l
+  unfolding mapFrom
+  map-length f i [] = refl
+  map-length f i (x ∷ xs) = ap suc (map-length f (suc i) xs)
+
+  from-at : (f : ℕ → X → X) (i : ℕ) (l : List X) (k : ℕ) (d : X) → k < length l → getD (mapFrom f i l) k d ≡ f (i + k) (getD l k d)
+  unfolding mapFrom
+  from-at f i [] k d h = absurd (omega arith)
+  from-at f i (x ∷ xs) zero d h = let e : i ≡ i + 0 = omega arith in ap (λ (j : ℕ). f j x) e
+  from-at f i (x ∷ xs) (suc k) d h =
+      let e : suc i + k ≡ i + suc k = omega arith in
+      from-at f (suc i) xs k d (omega arith) ∙ ap (λ (j : ℕ). f j (getD xs k d)) e
+
+  -- entry k of a mapped list
+  pub map-at : (f : ℕ → X → X) (l : List X) (k : ℕ) (d : X) → k < length l → getD (mapFrom f 0 l) k d ≡ f k (getD l k d)
+  map-at f l k d h = from-at f 0 l k d h ∙ ap (λ (j : ℕ). f j (getD l k d)) (zero-add k)
+
+  -- two maps that agree at each entry
+  pub map-alike : (f g : ℕ → X → X) (l : List X) (d : X) → ((k : ℕ) → k < length l → f k (getD l k d) ≡ g k (getD l k d)) → mapFrom f 0 l ≡ mapFrom g 0 l
+  map-alike f g l d h =
+      ext-getD d (mapFrom f 0 l) (mapFrom g 0 l) (map-length f 0 l ∙ sym (map-length g 0 l))
+      (λ k b. let c : k < length l = omega (arith, map-length f 0 l) in map-at f l k d c ∙ h k c ∙ sym (map-at g l k d c))
 
 module _ {X : Type 0} (f : ℕ → X → X) where
   -- the list once the loop has ended, where the first i entries are done already

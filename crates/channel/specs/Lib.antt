@@ -1,0 +1,10 @@
+pub mod Set
+pub mod Levels
+pub mod Memory
+pub mod Play
+pub mod Opening
+pub mod Commands
+pub mod Row
+pub mod Channels
+pub mod Rest
+pub mod Numbers

@@ -1,0 +1,107 @@
+// Commands that act at a row's start.
+ghost use mathlib.Core.Path.{_≡_};
+ghost use Prim.Native.Nat.{_<_};
+ghost use Rattle.channel.specs.Commands.{fineSlid, finetuned, waveformOf, keepsPosition, extendedBy, commanded};
+use crate::levels::set_pan;
+use crate::levels::slide_volume;
+use crate::levels::stereo_pan;
+use crate::state::Channel;
+use crate::state::Switches;
+use crate::state::Waveform;
+use pitch::finetune::finetune;
+use pitch::frequency::note_to_frequency;
+use pitch::limits::clamp_amiga;
+use pitch::slides::fine_slide;
+
+fn slide_finely(c: Channel, up: bool, amiga: bool) -> Channel
+    ensures { λ r. ⌜ r ≡ fineSlid c up amiga ⌝ }
+{
+    let mut d = c;
+    if c.info < 0xE0 {
+        return d;
+    }
+    d.frequency = clamp_amiga(fine_slide(c.frequency, up, c.info), amiga);
+    d.target_frequency = clamp_amiga(fine_slide(c.target_frequency, up, c.info), amiga);
+    d
+}
+
+// S2x.
+fn tune_finely(c: Channel, p: u8, amiga: bool) -> Channel
+    requires { ⌜ p < 16 ⌝ }
+    ensures { λ r. ⌜ r ≡ finetuned c p amiga ⌝ }
+{
+    let mut d = c;
+    if c.last_note == 0 {
+        return d;
+    }
+    let f = clamp_amiga(note_to_frequency(c.last_note, finetune(p as usize)), amiga);
+    d.frequency = f;
+    d.target_frequency = f;
+    d
+}
+
+fn waveform_of(p: u8) -> Waveform
+    ensures { λ r. ⌜ r ≡ waveformOf p ⌝ }
+{
+    let w = p % 4;
+    match w {
+        0 => Waveform::Sine,
+        1 => Waveform::RampDown,
+        2 => Waveform::Square,
+        _ => Waveform::Random,
+    }
+}
+
+fn keeps_position(p: u8) -> bool
+    ensures { λ r. ⌜ r ≡ keepsPosition p ⌝ }
+{
+    p / 4 % 2 == 1
+}
+
+// Sxp.
+fn extended(c: Channel, x: u8, p: u8, amiga: bool) -> Channel
+    requires { ⌜ p < 16 ⌝ }
+    ensures { λ r. ⌜ r ≡ extendedBy c x p amiga ⌝ }
+{
+    let mut d = c;
+    match x {
+        1 => {
+            d.glissando = p != 0;
+            d
+        }
+        2 => tune_finely(c, p, amiga),
+        3 => c.with_vibrato(waveform_of(p), keeps_position(p)),
+        4 => c.with_tremolo(waveform_of(p), keeps_position(p)),
+        8 => {
+            d.pan = p;
+            d
+        }
+        10 => {
+            d.pan = stereo_pan(p, c.right_bank, c.pan);
+            d
+        }
+        _ => d,
+    }
+}
+
+// The channel's command on tick 0.
+pub fn act(c: Channel, w: Switches) -> Channel
+    ensures { λ r. ⌜ r ≡ commanded c w ⌝ }
+{
+    let mut d = c;
+    let command = c.command;
+    match command {
+        4 => {
+            d.volume = slide_volume(c.volume, c.info / 16, c.info % 16, w.fast_slides);
+            d
+        }
+        5 => slide_finely(c, false, w.amiga_limits),
+        6 => slide_finely(c, true, w.amiga_limits),
+        19 => extended(c, c.info / 16, c.info % 16, w.amiga_limits),
+        24 => {
+            d.pan = set_pan(c.info);
+            d
+        }
+        _ => d,
+    }
+}

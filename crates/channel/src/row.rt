@@ -1,0 +1,95 @@
+// A channel's half of the Rust's `enter_row`, and the 32 of them.
+ghost use mathlib.Core.Path.{_≡_};
+ghost use Prim.Native.Nat.{_+_, _<_, _≤_, _^_};
+ghost use lib.ListN.{length};
+ghost use Rattle.laws.specs.Masks.{bitAt};
+ghost use Rattle.channel.specs.Row.{putsOff, putOff, withInfo, delivered, relatched, channelEntered};
+use crate::commands::act;
+use crate::memory::begin;
+use crate::play::play_cell;
+use crate::state::Channel;
+use crate::state::PendingTrigger;
+use crate::state::Played;
+use crate::state::Switches;
+use crate::state::TriggerOption;
+use tune::cells::Cell;
+
+fn is_note_delay(command: u8, info: u8) -> bool
+    ensures { λ r. ⌜ r ≡ putsOff command info ⌝ }
+{
+    (command == 19) & (info / 16 == 0xD) & (info % 16 != 0)
+}
+
+fn put_off(cell: Cell, info: u8) -> TriggerOption
+    ensures { λ r. ⌜ r ≡ putOff cell info ⌝ }
+{
+    TriggerOption::Some(PendingTrigger {
+        fire_tick: info % 16,
+        note: cell.note,
+        instrument: cell.instrument,
+        volume: cell.volume,
+    })
+}
+
+fn with_info(cell: Cell, info: u8) -> Cell
+    ensures { λ r. ⌜ r ≡ withInfo cell info ⌝ }
+{
+    Cell {
+        note: cell.note,
+        instrument: cell.instrument,
+        volume: cell.volume,
+        command: cell.command,
+        info,
+    }
+}
+
+// The cell is played, put off, or both.
+fn deliver(c: Channel, cell: Cell, samples: &[u8], amiga: bool, global: u8) -> Played
+    ensures { λ r. ⌜ r ≡ delivered c cell (now (samples .entry)) amiga global ⌝ }
+{
+    let in_force = with_info(cell, c.info);
+    if is_note_delay(cell.command, c.info) {
+        let channel = c.with_delay(put_off(cell, c.info));
+        if cell.info == 0 {
+            return play_cell(channel, in_force, samples, amiga, global);
+        }
+        return Played {
+            channel,
+            struck: false,
+        };
+    }
+    play_cell(c, in_force, samples, amiga, global)
+}
+
+// The voice latches the global volume if the volume is not the one before the row.
+fn relatch(c: Channel, before: u8, global: u8) -> Channel
+    ensures { λ r. ⌜ r ≡ relatched c before global ⌝ }
+{
+    let mut d = c;
+    if c.volume == before {
+        return d;
+    }
+    d.voice_global_vol = global;
+    d
+}
+
+// The channel after a row's start, and whether a note was struck.
+pub fn enter_channel(
+    c: Channel,
+    cell: Cell,
+    s_info: u8,
+    samples: &[u8],
+    w: Switches,
+    global: u8,
+) -> Played
+    ensures { λ r. ⌜ r ≡ channelEntered c cell «s_info» (now (samples .entry)) w global ⌝ }
+{
+    let begun = begin(c, cell, s_info);
+    let e = deliver(begun, cell, samples, w.amiga_limits, global);
+    let delivered = e.channel;
+    let channel = relatch(act(delivered, w), c.volume, global);
+    Played {
+        channel,
+        struck: e.struck,
+    }
+}
