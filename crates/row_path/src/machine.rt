@@ -181,7 +181,7 @@ pub fn row_length(c: Clock) -> u32
 }
 
 fn tick(c: Clock) -> Clock
-    requires { ⌜ (32 ≤ c .tempo) × (c .rate ≤ 100000) × (c .start ≤ 2 ^ 62) ⌝ }
+    requires { ⌜ (32 ≤ c .tempo) × (c .rate ≤ 100000) × (c .start ≤ 2 ^ 63) ⌝ }
     ensures { λ r. ⌜ r ≡ ticked c ⌝ }
 {
     let mut d = c;
@@ -227,7 +227,7 @@ fn jumps(j: Jump) -> bool
 
 // The same row once more, as a held visit.
 fn hold_on(p: Path) -> Path
-    requires { ⌜ (32 ≤ p .clock .tempo) × (p .clock .rate ≤ 100000) × (p .clock .start ≤ 2 ^ 62) ⌝ }
+    requires { ⌜ (32 ≤ p .clock .tempo) × (p .clock .rate ≤ 100000) × (p .clock .start ≤ 2 ^ 63) ⌝ }
     ensures { λ r. ⌜ r ≡ heldOn p ⌝ }
 {
     let before = p.clock;
@@ -244,7 +244,7 @@ fn hold_on(p: Path) -> Path
 
 // On to another place; at or past the end of n orders the tune has ended.
 fn go_on(n: usize, p: Path, at: Place) -> Path
-    requires { ⌜ (32 ≤ p .clock .tempo) × (p .clock .rate ≤ 100000) × (p .clock .start ≤ 2 ^ 62) ⌝ }
+    requires { ⌜ (32 ≤ p .clock .tempo) × (p .clock .rate ≤ 100000) × (p .clock .start ≤ 2 ^ 63) ⌝ }
     ensures { λ r. ⌜ r ≡ goneOn n p at ⌝ }
 {
     let before = p.clock;
@@ -263,7 +263,7 @@ fn go_on(n: usize, p: Path, at: Place) -> Path
 
 // Leave: the card start grows, and the row is held, left by its jump, or followed by the next.
 pub fn leave(orders: &[u8], e: Entered) -> Path
-    requires { ⌜ (32 ≤ e .path .clock .tempo) × (e .path .clock .rate ≤ 100000) × (e .path .clock .start ≤ 2 ^ 62) ⌝ }
+    requires { ⌜ (32 ≤ e .path .clock .tempo) × (e .path .clock .rate ≤ 100000) × (e .path .clock .start ≤ 2 ^ 63) ⌝ }
     ensures { λ r. ⌜ r ≡ left (now (orders .entry)) e ⌝ }
 {
     let p = e.path;

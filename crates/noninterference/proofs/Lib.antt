@@ -1,0 +1,7 @@
+pub mod Dealt
+pub mod Cells
+pub mod Bytes
+pub mod Together
+pub mod Views
+pub mod Theorem
+pub mod Example

@@ -1,0 +1,4 @@
+pub mod Revoiced
+pub mod Calls
+pub mod Machines
+pub mod Kept

@@ -1,0 +1,1 @@
+// Demand 3: a channel is untouched when the others are re-voiced. No code of its own.

@@ -1,0 +1,58 @@
+-- A record's 536 bytes (01, 'Section, second part', Record). Assumes nothing.
+use Prim.Native.Nat.{ℕ, zero, suc, _+_, _*_, _/_, _%_}
+use mathlib.Core.Bool.{Bool, true, false}
+use mathlib.Core.List.{List, [], _∷_, _++_}
+use lib.Ieee.{binary32, toBits}
+use Rattle.row_path.specs.Leave.{lengthOf}
+use Rattle.row_path.specs.declared.machine.Entered.{Entered}
+use Rattle.channel.specs.declared.state.Channel.{Channel}
+use Rattle.channel.specs.declared.state.TriggerOption.{TriggerOption}
+use Rattle.channel.specs.declared.state.TriggerOption.the-variants.{None, Some}
+
+-- a number as n bytes, the low byte first
+unfoldable pub bytesOf : ℕ → ℕ → List ℕ
+bytesOf zero x = []
+bytesOf (suc n) x = x % 256 ∷ bytesOf n (x / 256)
+
+-- 0 or 1
+abbrev pub flag : Bool → ℕ
+flag true = 1
+flag false = 0
+
+-- delay tick (0 none)
+abbrev pub delayTick : TriggerOption → ℕ
+delayTick None = 0
+delayTick (Some t) = t .«fire_tick»
+
+-- bytes of a row head, of a channel, and of a record
+abbrev pub headSize : ℕ
+headSize = 24
+
+abbrev pub channelSize : ℕ
+channelSize = 16
+
+abbrev pub recordSize : ℕ
+recordSize = headSize + 32 * channelSize
+
+-- order, pattern, row, held, speed, tempo, global volume, 0; 64-bit start; 32-bit strike mask; 32-bit length
+unfoldable pub rowHead : Entered → ℕ → ℕ → List ℕ
+rowHead e globalVolume strikes =
+    e .path .place .order ∷ e .pattern ∷ e .path .place .row ∷ flag (e .path .hold .held)
+    ∷ e .path .clock .speed ∷ e .path .clock .tempo ∷ globalVolume ∷ 0
+    ∷ (bytesOf 8 (e .path .clock .start) ++ (bytesOf 4 strikes ++ bytesOf 4 (lengthOf (e .path .clock))))
+
+-- frequency bits, target bits, instrument, volume, pan, active, last note, delay tick, voice global volume, voice mark
+unfoldable pub channelBytes : Channel → List ℕ
+channelBytes c =
+    bytesOf 4 (toBits binary32 (c .frequency))
+    ++ (bytesOf 4 (toBits binary32 (c .«target_frequency»))
+    ++ (c .instrument ∷ c .volume ∷ c .pan ∷ flag (c .active)
+    ∷ c .«last_note» ∷ delayTick (c .«pending_delay») ∷ c .«voice_global_vol» ∷ c .«opl_voice» ∷ []))
+
+-- the channels' bytes, one behind the other
+unfoldable pub channelsBytes : List Channel → List ℕ
+channelsBytes [] = []
+channelsBytes (c ∷ cs) = channelBytes c ++ channelsBytes cs
+
+unfoldable pub recordBytes : Entered → ℕ → ℕ → List Channel → List ℕ
+recordBytes e globalVolume strikes channels = rowHead e globalVolume strikes ++ channelsBytes channels
