@@ -1,0 +1,49 @@
+-- Entering and leaving a row equal the original Rust, on every table and state that Section accepts (demand 2). Assumes nothing.
+use Prim.Native.Nat.{ℕ}
+use mathlib.Core.Path.{_≡_, ap, _∙_}
+use mathlib.Core.Bool.{false}
+use Rattle.tune.proofs.Sized.{sized}
+use Rattle.row_path.specs.Leave.{left}
+use Rattle.section.specs.Tables.{Tables, tablesRule}
+use Rattle.section.specs.Machines.{recordOf, voicesAfter}
+use Rattle.section.specs.Section.{stateRule}
+use Rattle.section.specs.Walk.{voicesOf, stateWith, walk}
+use Rattle.section.specs.declared.state.State.{State}
+use Rattle.original.specs.Player.{«enter_row», «next_row»}
+use Rattle.original.specs.Map.{songOf, stateMap, rowFrom, enteredMap}
+use Rattle.original.specs.Accepted.{Shaped, ByteTables}
+use Rattle.original.specs.Turns.{turns, recordRead, recordsRead}
+use Rattle.original.proofs.Entering.{entering-same}
+use Rattle.original.proofs.Leaving.{leaving-same}
+use Rattle.original.proofs.Reading.{record-read}
+use Rattle.original.proofs.Staying.{rule-sound}
+use Rattle.original.proofs.Walking.{turns-equal, reads-equal}
+
+-- Entering: on tables that rule 9 accepts and a state that rule 11 accepts, the Rust's `enter_row` gives the map of our entered row
+pub enter-row-equal : (t : Tables) (s : State) → tablesRule t ≡ 0 → stateRule s ≡ 0 → ByteTables t → Shaped s
+    → «enter_row» (songOf t (s .switches)) (stateMap s) ≡ enteredMap t s (rowFrom t s)
+enter-row-equal t s nine eleven bytes shaped =
+    entering-same t s (sized (t .orders) (t .cells) (t .samples) nine) bytes (shaped .channels) (shaped .channel) (shaped .infos) (rule-sound s eleven shaped .row)
+
+-- Leaving: on the map of a row that did not end the tune, the Rust's `next_row` gives the map of our state behind the row
+pub next-row-equal : (t : Tables) (s : State) → rowFrom t s .path .ended ≡ false
+    → «next_row» (songOf t (s .switches)) (enteredMap t s (rowFrom t s)) ≡ stateMap (stateWith s (left (t .orders) (rowFrom t s)) (voicesAfter t (s .switches) (rowFrom t s) (voicesOf s)))
+next-row-equal t s going = leaving-same t s going
+
+-- Any number of rows: up to n turns of the Rust's two functions from an accepted state give the map of the state where our walk stops
+pub walk-equal : (t : Tables) (n : ℕ) (s : State) → tablesRule t ≡ 0 → stateRule s ≡ 0 → ByteTables t → Shaped s
+    → turns (songOf t (s .switches)) n (stateMap s) ≡ stateMap (walk t n s .state)
+walk-equal t n s nine eleven bytes shaped =
+    turns-equal t (sized (t .orders) (t .cells) (t .samples) nine) bytes n s shaped (rule-sound s eleven shaped)
+
+-- Records: that of a row is what is read off the Rust's state once it has entered the row
+pub record-equal : (t : Tables) (s : State) → tablesRule t ≡ 0 → stateRule s ≡ 0 → ByteTables t → Shaped s → rowFrom t s .path .ended ≡ false
+    → recordRead (songOf t (s .switches)) (s .path .clock .rate) (s .path .clock .start) («enter_row» (songOf t (s .switches)) (stateMap s)) ≡ recordOf t (s .switches) (rowFrom t s) (voicesOf s)
+record-equal t s nine eleven bytes shaped going =
+    ap (recordRead (songOf t (s .switches)) (s .path .clock .rate) (s .path .clock .start)) (enter-row-equal t s nine eleven bytes shaped) ∙ record-read t s going
+
+-- and the records of our walk are those read off up to n turns of the Rust
+pub records-equal : (t : Tables) (n : ℕ) (s : State) → tablesRule t ≡ 0 → stateRule s ≡ 0 → ByteTables t → Shaped s
+    → recordsRead (songOf t (s .switches)) (s .path .clock .rate) n (s .path .clock .start) (stateMap s) ≡ walk t n s .records
+records-equal t n s nine eleven bytes shaped =
+    reads-equal t (sized (t .orders) (t .cells) (t .samples) nine) bytes n s shaped (rule-sound s eleven shaped)

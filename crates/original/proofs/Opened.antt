@@ -1,0 +1,85 @@
+-- The premises of the theorems hold where they are used: a fresh state has the shape of its type, and a small tune with its fresh
+-- state is accepted. Assumes nothing.
+use Prim.Native.Nat.{ℕ, zero, suc, _≤_, _<_}
+use mathlib.Core.Path.{_≡_, refl, ap, _∙_}
+use mathlib.Core.Bool.{false}
+use mathlib.Core.List.{List, [], _∷_, map}
+use native.Mathlib.Omega.{arith}
+use lib.Ieee.{isNan}
+use lib.ListN.{length, getD, replicate}
+use Rattle.tune.specs.Sizes.{rule9}
+use Rattle.tune.specs.declared.opening.ChannelOpening.{ChannelOpening}
+use Rattle.tune.specs.declared.opening.Opening.{Opening}
+use Rattle.row_path.specs.Sound.{Bytes}
+use Rattle.channel.specs.Opening.{openedChannel}
+use Rattle.section.specs.Tables.{Tables, tablesRule}
+use Rattle.section.specs.Open.{firstPath, freshState}
+use Rattle.section.specs.Section.{pathBroken, channelBroken, stateRule}
+use Rattle.original.specs.Player.{anyChannel}
+use Rattle.original.specs.Accepted.{ShapedChannel, Shaped, ByteTables}
+
+zero-bytes : (n : ℕ) → Bytes (replicate n 0)
+zero-bytes zero k = omega arith
+zero-bytes (suc n) zero = omega arith
+zero-bytes (suc n) (suc k) = zero-bytes n k
+
+length-zeros : (n : ℕ) → length {A = ℕ} (replicate n 0) ≡ n
+length-zeros zero = refl
+length-zeros (suc n) = ap suc (length-zeros n)
+
+opened-channel : (o : ChannelOpening) → ShapedChannel (openedChannel o)
+unfolding openedChannel
+opened-channel o = record { memory = length-zeros 32; bytes = zero-bytes 32 }
+
+opened-length : (os : List ChannelOpening) → length (map openedChannel os) ≡ length os
+opened-length [] = refl
+opened-length (o ∷ os) = ap suc (opened-length os)
+
+opened-at : (os : List ChannelOpening) (i : ℕ) → i < length os → ShapedChannel (getD (map openedChannel os) i anyChannel)
+opened-at [] i h = absurd (omega arith)
+opened-at (o ∷ os) zero h = opened-channel o
+opened-at (o ∷ os) (suc i) h = opened-at os i (omega arith)
+
+-- a fresh state has 32 channels, memories and S infos of 32 bytes
+pub fresh-shaped : (o : Opening) → length (o .channels) ≡ 32 → o .speed ≤ 255 → Shaped (freshState o)
+unfolding freshState firstPath
+fresh-shaped o h f =
+    record {
+      channels = opened-length (o .channels) ∙ h;
+      channel = λ i b. opened-at (o .channels) i (omega (arith, h));
+      infos = length-zeros 32;
+      order = omega arith;
+      speed = f;
+    }
+
+-- one order, one pattern, one sample
+unfoldable small : Tables
+small = record { orders = 0 ∷ []; cells = replicate 10240 0; samples = replicate 20 0 }
+
+unfoldable opening : Opening
+opening =
+    record {
+      speed = 6;
+      tempo = 125;
+      «global_volume» = 64;
+      rate = 60000;
+      «amiga_limits» = false;
+      «fast_slides» = false;
+      channels = replicate 32 (record { pan = 8; muted = false; «right_bank» = false; adlib = false });
+    }
+
+small-tables : tablesRule small ≡ 0
+unfolding small rule9
+small-tables = refl
+
+small-state : stateRule (freshState opening) ≡ 0
+unfolding opening stateRule freshState firstPath pathBroken channelBroken openedChannel isNan
+small-state = refl
+
+small-bytes : ByteTables small
+unfolding small
+small-bytes = record { cells = zero-bytes 10240; samples = zero-bytes 20 }
+
+small-shaped : Shaped (freshState opening)
+unfolding opening
+small-shaped = fresh-shaped opening refl (omega arith)

@@ -1,0 +1,165 @@
+-- The two walks side by side: a state that is accepted gives the same states and the same records row by row. Assumes nothing.
+use Prim.Native.Nat.{ℕ, zero, suc, _+_}
+use mathlib.Core.Path.{_≡_, refl, sym, ap, _∙_}
+use mathlib.Core.Bool.{Bool, true, false, false≢true}
+use mathlib.Core.List.{List, _∷_}
+use Rattle.laws.specs.Choice.{pick}
+use Rattle.laws.proofs.Picks.{choice, chain}
+use Rattle.tune.proofs.Sized.{Sized}
+use Rattle.row_path.specs.Enter.{endedAt, arrived, settled, acted, visited, enteredAt, entered}
+use Rattle.row_path.specs.Leave.{lengthOf, ticked, left}
+use Rattle.row_path.specs.Sound.{Sound}
+use Rattle.row_path.specs.Walk.{Stop, Row, turnBy, turn}
+use Rattle.row_path.specs.declared.option.ByteOption.{ByteOption}
+use Rattle.row_path.specs.declared.option.ByteOption.the-variants.{None, Some}
+use Rattle.row_path.specs.declared.loops.Jump.the-variants.{Stay}
+use Rattle.row_path.specs.declared.machine.Clock.{Clock}
+use Rattle.row_path.specs.declared.machine.Entered.{Entered}
+use Rattle.row_path.proofs.Unmoved.{entered-clock, left-clock, left-start}
+use Rattle.section.specs.Tables.{Tables}
+use Rattle.section.specs.Machines.{rowPlayed, recordOf}
+use Rattle.section.specs.Walk.{voicesOf, stateWith, stepBy, step, onto, goOn, walk}
+use Rattle.section.specs.declared.state.State.{State}
+use Rattle.original.specs.State.{Song, PlayerState}
+use Rattle.original.specs.Player.{«next_row»}
+use Rattle.original.specs.Map.{songOf, playerOf, stateMap, waitingIn, rowFrom, isSome, patternThere, playedMap, enteredMap}
+use Rattle.original.specs.Accepted.{Shaped, ByteTables}
+use Rattle.original.specs.Turns.{onFrom, turns, readFrom, recordsRead}
+use Rattle.original.proofs.Arms.{first, second}
+use Rattle.original.proofs.Entering.{entering-same}
+use Rattle.original.proofs.Leaving.{map-played, leaving-same, behind}
+use Rattle.original.proofs.Reading.{length-read, record-read}
+use Rattle.original.proofs.Staying.{behind-sound, behind-shaped}
+
+-- a row that ended the tune leaves the channels, and no jump waits
+closed-by : (cells : List ℕ) (s : State) (t : Tables) (at : ℕ) (x : ByteOption) → s .path .ended ≡ false → enteredAt cells (s .path) at x .path .ended ≡ true
+    → pick (isSome x) (playedMap s (enteredAt cells (s .path) at x) (rowPlayed t (s .switches) (enteredAt cells (s .path) at x) (voicesOf s)) (waitingIn t (enteredAt cells (s .path) at x)))
+    (playerOf (enteredAt cells (s .path) at x .path) (enteredAt cells (s .path) at x .jump) (s .channels) (s .«global_volume») None 0)
+    ≡ playerOf (enteredAt cells (s .path) at x .path) Stay (s .channels) (s .«global_volume») None 0
+unfolding enteredAt endedAt visited acted settled arrived
+closed-by cells s t at None g e = refl
+closed-by cells s t at (Some v) g e =
+    absurd (false≢true (sym (choice (λ (y : Entered). y .path .ended ≡ false) (s .path .hold .held) (λ _. g) (λ _. g)) ∙ e))
+
+-- the state where a walk stops, if entering ended the tune
+abbrev stopped : Tables → State → State
+stopped t s = stateWith s (rowFrom t s .path) (voicesOf s)
+
+map-stopped : (t : Tables) (s : State) → s .path .ended ≡ false → rowFrom t s .path .ended ≡ true → enteredMap t s (rowFrom t s) ≡ stateMap (stopped t s)
+unfolding enteredMap entered stateWith
+map-stopped t s g e = closed-by (t .cells) s t _ _ g e
+
+module _ (t : Tables) (rule : Sized (t .orders) (t .cells) (t .samples)) (bytes : ByteTables t) where
+  -- a row that was entered, and what the walks do from there
+  on-equal : (n : ℕ) (s : State) → s .path .ended ≡ false
+      → (rowFrom t s .path .ended ≡ false → turns (songOf t (s .switches)) n (stateMap (behind t s)) ≡ stateMap (walk t n (behind t s) .state))
+      → onFrom (turns (songOf t (s .switches)) n) (songOf t (s .switches)) (enteredMap t s (rowFrom t s))
+      ≡ stateMap (goOn (stepBy t s (turnBy (t .orders) (rowFrom t s))) (walk t n) .state)
+  unfolding onFrom turnBy stepBy goOn onto playerOf stateWith
+  on-equal n s g more = by (rowFrom t s .path .ended) refl
+    where
+      m : Song
+      m = songOf t (s .switches)
+
+      by : (b : Bool) → rowFrom t s .path .ended ≡ b
+          → onFrom (turns m n) m (enteredMap t s (rowFrom t s))
+          ≡ stateMap (goOn (stepBy t s (pick b (Stop (rowFrom t s .path)) (Row (rowFrom t s) (left (t .orders) (rowFrom t s))))) (walk t n) .state)
+      by true e = ap (onFrom (turns m n) m) (map-stopped t s g e) ∙ first (rowFrom t s .path .ended) _ e refl
+      by false e =
+          ap (onFrom (turns m n) m) (map-played t s e)
+          ∙ second (rowFrom t s .path .ended) _ e (ap (λ (z : PlayerState). turns m n («next_row» m z)) (sym (map-played t s e)) ∙ ap (turns m n) (leaving-same t s e) ∙ more e)
+
+  ended-equal : (n : ℕ) (s : State) → s .path .ended ≡ true → turns (songOf t (s .switches)) (suc n) (stateMap s) ≡ stateMap (goOn (stepBy t s (Stop (s .path))) (walk t n) .state)
+  unfolding turns playerOf goOn stepBy stateWith
+  ended-equal n s e = first (s .path .ended) _ e refl
+
+  going-equal : (n : ℕ) (s : State) → Shaped s → Sound (s .path) → s .path .ended ≡ false
+      → turns (songOf t (s .switches)) n (stateMap (behind t s)) ≡ stateMap (walk t n (behind t s) .state)
+      → turns (songOf t (s .switches)) (suc n) (stateMap s) ≡ stateMap (goOn (stepBy t s (turnBy (t .orders) (rowFrom t s))) (walk t n) .state)
+  unfolding turns playerOf
+  going-equal n s shaped sound e more =
+      second (s .path .ended) _ e
+      (ap (onFrom (turns (songOf t (s .switches)) n) (songOf t (s .switches))) (entering-same t s rule bytes (shaped .channels) (shaped .channel) (shaped .infos) (sound .row))
+      ∙ on-equal n s e (λ _. more))
+
+  same-switches : (n : ℕ) (s : State) → turns (songOf t (behind t s .switches)) n (stateMap (behind t s)) ≡ turns (songOf t (s .switches)) n (stateMap (behind t s))
+  unfolding stateWith
+  same-switches n s = refl
+
+  -- states
+  pub turns-equal : (n : ℕ) (s : State) → Shaped s → Sound (s .path) → turns (songOf t (s .switches)) n (stateMap s) ≡ stateMap (walk t n s .state)
+  unfolding turns walk step turn
+  turns-equal zero s shaped sound = refl
+  turns-equal (suc n) s shaped sound =
+      by (s .path .ended) refl
+      (sym (same-switches n s) ∙ turns-equal n (behind t s) (behind-shaped t s rule bytes shaped sound) (behind-sound t s rule bytes shaped sound))
+    where
+      by : (b : Bool) → s .path .ended ≡ b → turns (songOf t (s .switches)) n (stateMap (behind t s)) ≡ stateMap (walk t n (behind t s) .state)
+          → turns (songOf t (s .switches)) (suc n) (stateMap s) ≡ stateMap (goOn (stepBy t s (pick b (Stop (s .path)) (turnBy (t .orders) (rowFrom t s)))) (walk t n) .state)
+      by true e more = ended-equal n s e
+      by false e more = going-equal n s shaped sound e more
+
+  entered-ended : (s : State) → enteredMap t s (rowFrom t s) .ended ≡ rowFrom t s .path .ended
+  unfolding enteredMap playerOf
+  entered-ended s = chain (λ (z : PlayerState). z .ended) (patternThere t (s .path)) (λ _. refl) (λ _. refl)
+
+  -- rate and card start behind a row
+  behind-rate : (s : State) → behind t s .path .clock .rate ≡ s .path .clock .rate
+  unfolding stateWith ticked
+  behind-rate s = ap (λ (c : Clock). c .rate) (left-clock (t .orders) (rowFrom t s)) ∙ entered-clock (t .orders) (t .cells) (s .path) .0
+
+  behind-start : (s : State) → behind t s .path .clock .start ≡ s .path .clock .start + lengthOf (rowFrom t s .path .clock)
+  unfolding stateWith
+  behind-start s =
+      left-start (t .orders) (rowFrom t s)
+      ∙ ap (λ (n : ℕ). n + lengthOf (rowFrom t s .path .clock)) (entered-clock (t .orders) (t .cells) (s .path) .1)
+
+  abbrev pub readAs : ℕ → State → List (List ℕ)
+  readAs n s = recordsRead (songOf t (s .switches)) (s .path .clock .rate) n (s .path .clock .start) (stateMap s)
+
+  read-on : (n : ℕ) (s : State) → s .path .ended ≡ false → readAs n (behind t s) ≡ walk t n (behind t s) .records
+      → readFrom (recordsRead (songOf t (s .switches)) (s .path .clock .rate) n) (songOf t (s .switches)) (s .path .clock .rate) (s .path .clock .start) (enteredMap t s (rowFrom t s))
+      ≡ goOn (stepBy t s (turnBy (t .orders) (rowFrom t s))) (walk t n) .records
+  unfolding readFrom turnBy stepBy goOn onto stateWith
+  read-on n s g more = by (rowFrom t s .path .ended) refl
+    where
+      m : Song
+      m = songOf t (s .switches)
+
+      r : ℕ
+      r = s .path .clock .rate
+
+      by : (b : Bool) → rowFrom t s .path .ended ≡ b
+          → readFrom (recordsRead m r n) m r (s .path .clock .start) (enteredMap t s (rowFrom t s))
+          ≡ goOn (stepBy t s (pick b (Stop (rowFrom t s .path)) (Row (rowFrom t s) (left (t .orders) (rowFrom t s))))) (walk t n) .records
+      by true e = first (enteredMap t s (rowFrom t s) .ended) _ (entered-ended s ∙ e) refl
+      by false e =
+          second (enteredMap t s (rowFrom t s) .ended) _ (entered-ended s ∙ e)
+          ((λ i. record-read t s e i ∷ recordsRead m r n (s .path .clock .start + length-read t s e i) (leaving-same t s e i))
+          ∙ ap (λ (rest : List (List ℕ)). recordOf t (s .switches) (rowFrom t s) (voicesOf s) ∷ rest)
+          ((λ i. recordsRead m (sym (behind-rate s) i) n (sym (behind-start s) i) (stateMap (behind t s))) ∙ more))
+
+  ended-reads : (n : ℕ) (s : State) → s .path .ended ≡ true → readAs (suc n) s ≡ goOn (stepBy t s (Stop (s .path))) (walk t n) .records
+  unfolding recordsRead playerOf goOn stepBy
+  ended-reads n s e = first (s .path .ended) _ e refl
+
+  going-reads : (n : ℕ) (s : State) → Shaped s → Sound (s .path) → s .path .ended ≡ false → readAs n (behind t s) ≡ walk t n (behind t s) .records
+      → readAs (suc n) s ≡ goOn (stepBy t s (turnBy (t .orders) (rowFrom t s))) (walk t n) .records
+  unfolding recordsRead playerOf
+  going-reads n s shaped sound e more =
+      second (s .path .ended) _ e
+      (ap (readFrom (recordsRead (songOf t (s .switches)) (s .path .clock .rate) n) (songOf t (s .switches)) (s .path .clock .rate) (s .path .clock .start))
+      (entering-same t s rule bytes (shaped .channels) (shaped .channel) (shaped .infos) (sound .row))
+      ∙ read-on n s e more)
+
+  -- records
+  pub reads-equal : (n : ℕ) (s : State) → Shaped s → Sound (s .path) → readAs n s ≡ walk t n s .records
+  unfolding recordsRead walk step turn
+  reads-equal zero s shaped sound = refl
+  reads-equal (suc n) s shaped sound =
+      by (s .path .ended) refl (reads-equal n (behind t s) (behind-shaped t s rule bytes shaped sound) (behind-sound t s rule bytes shaped sound))
+    where
+      by : (b : Bool) → s .path .ended ≡ b → readAs n (behind t s) ≡ walk t n (behind t s) .records
+          → readAs (suc n) s ≡ goOn (stepBy t s (pick b (Stop (s .path)) (turnBy (t .orders) (rowFrom t s)))) (walk t n) .records
+      by true e more = ended-reads n s e
+      by false e more = going-reads n s shaped sound e more

@@ -1,0 +1,7 @@
+pub mod State
+pub mod Fields
+pub mod Helpers
+pub mod Player
+pub mod Map
+pub mod Accepted
+pub mod Turns

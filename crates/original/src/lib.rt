@@ -1,0 +1,1 @@
+// The original Rust, transcribed; no code of its own.
