@@ -12,17 +12,17 @@ use std::path::Path;
 
 /// How often each thing was seen, in `visits` and in `walks`.
 #[derive(Default)]
-struct Tally {
-    seen: BTreeMap<String, [usize; 2]>,
+pub struct Tally {
+    pub seen: BTreeMap<String, [usize; 2]>,
     file: usize,
 }
 
 impl Tally {
-    fn note(&mut self, what: impl Into<String>) {
+    pub fn note(&mut self, what: impl Into<String>) {
         self.seen.entry(what.into()).or_default()[self.file] += 1;
     }
 
-    fn note_if(&mut self, holds: bool, what: &str) {
+    pub fn note_if(&mut self, holds: bool, what: &str) {
         if holds {
             self.note(what);
         }
@@ -248,7 +248,7 @@ fn see_odd_state(tally: &mut Tally, tune: &Tune, state: &State) {
     }
 }
 
-fn see_odd_channel(tally: &mut Tally, ch: &ChannelState) {
+pub fn see_odd_channel(tally: &mut Tally, ch: &ChannelState) {
     let frequency = f32::from_bits(ch.frequency);
     let facts = [
         (frequency == f32::INFINITY, "frequency infinite"),
@@ -273,7 +273,7 @@ fn see_odd_channel(tally: &mut Tally, ch: &ChannelState) {
 }
 
 /// A cell of a row being entered, with its channel before and after.
-struct Seen<'a> {
+pub struct Seen<'a> {
     note: u8,
     instrument: u8,
     volume: u8,
@@ -284,6 +284,27 @@ struct Seen<'a> {
     before: &'a ChannelState,
     after: &'a ChannelState,
     struck: bool,
+}
+
+impl Seen<'_> {
+    pub fn new<'a>(
+        cell: &[u8],
+        before: &'a ChannelState,
+        after: &'a ChannelState,
+        struck: bool,
+    ) -> Seen<'a> {
+        Seen {
+            note: cell[0],
+            instrument: cell[1],
+            volume: cell[2],
+            command: cell[3],
+            raw_info: cell[4],
+            info: after.info,
+            before,
+            after,
+            struck,
+        }
+    }
 }
 
 fn see_row(tally: &mut Tally, tune: &Tune, before: &State, entered: &State) {
@@ -301,25 +322,23 @@ fn see_row(tally: &mut Tally, tune: &Tune, before: &State, entered: &State) {
     let cells = tune.row(row.pattern.into(), entered.row.into());
     let seen: Vec<Seen> = cells
         .enumerate()
-        .map(|(i, cell)| Seen {
-            note: cell[0],
-            instrument: cell[1],
-            volume: cell[2],
-            command: cell[3],
-            raw_info: cell[4],
-            info: entered.channels[i].info,
-            before: &before.channels[i],
-            after: &entered.channels[i],
-            struck: row.strikes >> i & 1 == 1,
+        .map(|(i, cell)| {
+            let struck = row.strikes >> i & 1 == 1;
+            Seen::new(cell, &before.channels[i], &entered.channels[i], struck)
         })
         .collect();
     see_path(tally, &seen, before, entered);
     for cell in &seen {
-        see_command(tally, cell);
-        see_note(tally, tune, cell);
-        see_sound(tally, entered, cell);
+        see_cell(tally, tune, entered.amiga_limits, cell);
     }
     tally.note_if(entered.pending_global_vol.is_some(), "V waits");
+}
+
+/// What a cell does on its channel.
+pub fn see_cell(tally: &mut Tally, tune: &Tune, amiga_limits: bool, cell: &Seen) {
+    see_command(tally, cell);
+    see_note(tally, tune, cell);
+    see_sound(tally, amiga_limits, cell);
 }
 
 /// The last low nibble of S with this subcommand on the row.
@@ -423,7 +442,7 @@ fn see_strike(tally: &mut Tally, tune: &Tune, cell: &Seen, slide: bool) {
     tally.note_if(cleared, "voice cleared by a PCM sample");
 }
 
-fn see_sound(tally: &mut Tally, entered: &State, cell: &Seen) {
+fn see_sound(tally: &mut Tally, amiga_limits: bool, cell: &Seen) {
     let (before, after) = (cell.before, cell.after);
     tally.note_if(before.frozen && !after.frozen, "channel thawed");
     let unknown = cell.instrument != 0 && after.instrument == cell.instrument;
@@ -432,9 +451,8 @@ fn see_sound(tally: &mut Tally, entered: &State, cell: &Seen) {
     let loud = cell.volume != 0xFF && cell.volume > 64;
     tally.note_if(loud, "volume above 64 in a cell");
     let limits = [16_726.0_f32.to_bits(), (14_317_456.0_f32 / 113.0).to_bits()];
-    let limited = entered.amiga_limits
-        && after.frequency != before.frequency
-        && limits.contains(&after.frequency);
+    let limited =
+        amiga_limits && after.frequency != before.frequency && limits.contains(&after.frequency);
     tally.note_if(limited, "Amiga limits act");
     let fine = matches!(cell.command, E_SLIDE_DOWN | F_SLIDE_UP) && cell.info >= 0xE0;
     if fine && f32::from_bits(after.frequency).is_normal() {

@@ -1,11 +1,13 @@
 //! Runs the original row processor of oxideav-s3m as the judge of the port.
 
 mod archive;
+mod channels;
 mod cover;
 mod example;
 mod files;
 mod generate;
 mod met;
+mod pipe;
 mod pitch;
 mod powf;
 mod random;
@@ -50,6 +52,8 @@ const USAGE: &str = "usage: oracle/run sheet < FILE
        oracle/run record-files DIR | compare-files DIR | cover-files DIR | tally-files DIR
        oracle/run record-pitch DIR | compare-pitch DIR | tally-pitch DIR
        oracle/run replay-pitch PROGRAM [SEED]
+       oracle/run record-channels DIR | compare-channels DIR | cover-channels DIR | tally-channels DIR
+       oracle/run replay-channels PROGRAM [SEED] [TUNES VISITS]
        oracle/run replay SEED TUNES VISITS [PROGRAM]
        oracle/run show FILE N [ROW]
        oracle/run powf";
@@ -73,6 +77,11 @@ fn main() -> ExitCode {
         ["compare-pitch", dir] => pitch::compare(Path::new(dir)).map(String::into_bytes),
         ["tally-pitch", dir] => pitch::tally(Path::new(dir)).map(String::into_bytes),
         ["replay-pitch", ref words @ ..] => pitch::replay(words).map(String::into_bytes),
+        ["record-channels", dir] => channels::record(Path::new(dir)).map(String::into_bytes),
+        ["compare-channels", dir] => channels::compare(Path::new(dir)).map(String::into_bytes),
+        ["tally-channels", dir] => channels::tally(Path::new(dir)).map(String::into_bytes),
+        ["cover-channels", dir] => channels::cover(Path::new(dir)).map(String::into_bytes),
+        ["replay-channels", ref words @ ..] => channels::replay(words).map(String::into_bytes),
         ["replay", seed, tunes, visits, ref program @ ..] => {
             replay([seed, tunes, visits], program).map(String::into_bytes)
         }

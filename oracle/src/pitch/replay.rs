@@ -1,13 +1,9 @@
 //! Runs the built `replay_pitch` on answers at scale, through a pipe: nothing is stored.
 
 use super::{NAME, Tally, scale};
-use std::fs::{self, OpenOptions};
-use std::io::{self, BufWriter, Write};
+use crate::pipe;
+use std::io::{self, Write};
 use std::path::Path;
-use std::process::{self, Command, Stdio};
-use std::sync::mpsc;
-use std::time::Duration;
-use std::{env, thread};
 
 /// The periods that are counted apart.
 const LOW_PERIODS: u32 = 300_000;
@@ -25,16 +21,11 @@ pub fn replay(words: &[&str]) -> Result<String, String> {
 
 /// `program` must print the counts of what it was handed, with no difference.
 fn replay_from(program: &Path, seed: u64) -> Result<String, String> {
-    let program = program
-        .canonicalize()
-        .map_err(|why| format!("{}: {why}", program.display()))?;
     let mut tally = Tally::default();
     scale::all(seed, &mut |record| tally.add(&record));
-    let dir = env::temp_dir().join(format!("replay-pitch-{}", process::id()));
-    fs::create_dir(&dir).map_err(|why| format!("{}: {why}", dir.display()))?;
-    let printed = run(&program, &dir, tally.sum() as u32, seed);
-    fs::remove_dir_all(&dir).map_err(|why| format!("{}: {why}", dir.display()))?;
-    let printed = printed?;
+    let count = tally.sum() as u32;
+    let printed = pipe::printed(program, NAME, move |out| write(out, count, seed))
+        .map_err(|why| format!("replay-pitch: {why}"))?;
     if printed != tally.text() {
         let expected = tally.text();
         return Err(format!(
@@ -55,34 +46,7 @@ fn covered(tally: &Tally, seed: u64) -> String {
     )
 }
 
-/// What the program prints when it reads the records through a pipe in `dir`.
-fn run(program: &Path, dir: &Path, count: u32, seed: u64) -> Result<String, String> {
-    let pipe = dir.join(NAME);
-    let made = Command::new("mkfifo").arg(&pipe).status();
-    if !made.is_ok_and(|status| status.success()) {
-        return Err("replay-pitch: mkfifo failed".to_string());
-    }
-    let child = Command::new(program)
-        .current_dir(dir)
-        .stdin(Stdio::null())
-        .stdout(Stdio::piped())
-        .spawn()
-        .map_err(|why| format!("{}: {why}", program.display()))?;
-    // A thread of its own: opening the pipe would wait for ever on a program that does not.
-    let (tell, told) = mpsc::channel();
-    thread::spawn(move || tell.send(write(&pipe, count, seed)));
-    let output = child.wait_with_output().map_err(|why| why.to_string())?;
-    let printed = String::from_utf8_lossy(&output.stdout).into_owned();
-    match told.recv_timeout(Duration::from_secs(10)) {
-        Ok(Ok(())) if output.status.success() => Ok(printed),
-        Ok(Ok(())) => Err(format!("{printed}replay-pitch: {}", output.status)),
-        Ok(Err(why)) => Err(format!("{printed}replay-pitch: {why}")),
-        Err(_) => Err(format!("{printed}replay-pitch: the pipe was not read")),
-    }
-}
-
-fn write(pipe: &Path, count: u32, seed: u64) -> io::Result<()> {
-    let mut out = BufWriter::with_capacity(1 << 16, OpenOptions::new().write(true).open(pipe)?);
+fn write(out: &mut dyn Write, count: u32, seed: u64) -> io::Result<()> {
     out.write_all(&count.to_le_bytes())?;
     let mut written = Ok(());
     scale::all(seed, &mut |record| {
@@ -90,6 +54,5 @@ fn write(pipe: &Path, count: u32, seed: u64) -> io::Result<()> {
             written = out.write_all(&record);
         }
     });
-    written?;
-    out.flush()
+    written
 }

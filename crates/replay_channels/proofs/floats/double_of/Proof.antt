@@ -1,0 +1,14 @@
+-- `replay_channels::floats::double_of` meets its contract. Assumes nothing.
+use borrow.Author.Needs.{needs}
+use Rattle.replay_channels.proofs.NoNan.{double-no-nan}
+use Rattle.replay_channels.proofs.floats.double_of.Statement.{statement}
+use Rattle.replay_channels.proofs.floats.double_of.Tie as tie
+
+float-from-bits-result : tie.Need-float-from-bits-result
+float-from-bits-result c = double-no-nan (c .args .bits) (c .pre)
+
+returns : tie.Need-returns
+returns c = search needs
+
+pub double-of-spec : {M : Type 1} → statement M
+double-of-spec = tie.close (tie.spec float-from-bits-result returns)

@@ -1,0 +1,62 @@
+// Counters: how many channels were compared, how many of them, of their strikes and of the rows' global volumes differ,
+// and what could not be read.
+ghost use mathlib.Core.Path.{_≡_};
+ghost use lib.ListN.{length};
+use libc::STDOUT_FILENO;
+
+const ROWS: usize = 0;
+
+const CHANNELS: usize = 1;
+
+const STRIKES: usize = 2;
+
+const VOLUMES: usize = 3;
+
+const MISREAD: usize = 4;
+
+pub fn counters() -> [u64; 5]
+    ensures { λ r. ⌜ 5 ≡ length r ⌝ }
+{
+    [0; 5]
+}
+
+fn add(counts: &mut [u64], counter: usize, n: u64) {
+    if counter < counts.len() {
+        let before = counts[counter];
+        counts[counter] = std::num::wrapping_add_u64(before, n);
+    }
+}
+
+pub fn channel(counts: &mut [u64], same: bool) {
+    add(counts, ROWS, 1);
+    add(counts, CHANNELS, !same as u64);
+}
+
+pub fn strike(counts: &mut [u64], same: bool) {
+    add(counts, STRIKES, !same as u64);
+}
+
+pub fn volume(counts: &mut [u64], same: bool) {
+    add(counts, VOLUMES, !same as u64);
+}
+
+pub fn misread(counts: &mut [u64], yes: bool) {
+    add(counts, MISREAD, yes as u64);
+}
+
+fn print_count(name: &[u8], counts: &[u64], counter: usize) {
+    if counter < counts.len() {
+        io::write_all(STDOUT_FILENO, name);
+        io::print_decimal(STDOUT_FILENO, counts[counter]);
+        io::write_all(STDOUT_FILENO, b"\n");
+    }
+}
+
+// Each counter with its name, a line each.
+pub fn print(counts: &[u64]) {
+    print_count(b"channel rows: ", counts, ROWS);
+    print_count(b"different channels: ", counts, CHANNELS);
+    print_count(b"different strikes: ", counts, STRIKES);
+    print_count(b"different volumes: ", counts, VOLUMES);
+    print_count(b"misread: ", counts, MISREAD);
+}

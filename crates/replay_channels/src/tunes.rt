@@ -1,0 +1,50 @@
+// The tunes, one by one: the samples of each, then its visits.
+ghost use mathlib.Core.Path.{_≡_};
+ghost use lib.ListN.{length};
+use crate::input;
+use crate::input::first;
+use crate::input::read_exact;
+use crate::input::read_first;
+use crate::tally;
+use crate::visits::read_visits;
+use tune::numbers::u16_at;
+use tune::numbers::u32_at;
+
+// False where a tune is cut short.
+fn read_tune(fd: i32, counts: &mut [u64]) -> bool {
+    let mut head = input::head_room();
+    let mut table = io::buffer();
+    if !read_exact(fd, &mut head) {
+        return false;
+    }
+    let bytes = u16_at(&head, 0) * 20;
+    if !read_first(fd, &mut table, bytes) {
+        return false;
+    }
+    let samples = first(&table, bytes);
+    read_visits(fd, u16_at(&head, 2), samples, counts)
+}
+
+fn read_tunes(fd: i32, tunes: usize, counts: &mut [u64]) -> bool {
+    let mut n: usize = 0;
+    while n < tunes {
+        if !read_tune(fd, counts) {
+            return false;
+        }
+        n += 1;
+    }
+    true
+}
+
+// All tunes, behind which nothing more may stand.
+pub fn run(fd: i32, counts: &mut [u64]) {
+    let mut head = input::head_room();
+    let mut more = input::head_room();
+    if !read_exact(fd, &mut head) {
+        tally::misread(counts, true);
+        return;
+    }
+    let whole = read_tunes(fd, u32_at(&head, 0) as usize, counts);
+    let left = io::read_full(fd, &mut more);
+    tally::misread(counts, !whole | (left != 0));
+}
