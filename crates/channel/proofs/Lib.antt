@@ -6,3 +6,4 @@ pub mod Armed
 pub mod Numbered
 pub mod Resting
 pub mod Marked
+pub mod Visits

@@ -24,10 +24,10 @@ use Rattle.channel.specs.Row.{withInfo, delivered, relatched, finished, 
 use Rattle.channel.specs.Rest.{isNone, atRest, quiet}
 
 -- the quiet cell
-abbrev unnamed : Cell
+abbrev pub unnamed : Cell
 unnamed = record { note = 255; instrument = 0; volume = 255; command = 0; info = 0 }
 
-quiet-is : (l : Cell) → quiet l ≡ true → l ≡ unnamed
+pub quiet-is : (l : Cell) → quiet l ≡ true → l ≡ unnamed
 unfolding quiet
 quiet-is l q =
     let a = and-true (eqb (l .note) 255 && eqb (l .instrument) 0 && eqb (l .volume) 255 && eqb (l .command) 0) (eqb (l .info) 0) q in

@@ -4,9 +4,9 @@ use native.Mathlib.Numerals.{add-one}
 use native.Mathlib.Nat.{le-refl, zero-add}
 use native.Mathlib.Omega.{arith}
 use mathlib.Core.Path.{_≡_, refl, sym, ap, _∙_}
-use mathlib.Core.List.{List, [], _∷_, _++_, append-assoc, append-nil}
+use mathlib.Core.List.{List, [], _∷_, _++_, map, map-append, append-assoc, append-nil}
 use lib.ListN.{length, take, drop, getD, set}
-use lib.Seq.{ext-getD, drop-cons, take-suc-set, drop-set-lt, take-length, drop-length}
+use lib.Seq.{ext-getD, drop-cons, take-suc, take-suc-set, drop-set-lt, take-length, drop-length}
 use Rattle.laws.specs.Entries.{mapFrom}
 
 module _ {X : Type 0} where
@@ -51,3 +51,8 @@ module _ {X : Type 0} (f : ℕ → X → X) where
   pub mixed-end : (l : List X) (i : ℕ) → i ≡ length l → mixed l i ≡ l
   unfolding mixed mapFrom
   mixed-end l i e = rw (e, take-length, drop-length, append-nil)
+
+-- a loop that fills a list from another: the first i entries are made, and one more
+module _ {X Y : Type 0} (f : X → Y) where
+  pub filled-next : (m : List X) (l : List Y) (i : ℕ) (d : X) → i < length m → i < length l → take i l ≡ map f (take i m) → take (i + 1) (set l i (f (getD m i d))) ≡ map f (take (i + 1) m)
+  filled-next m l i d h k e = rw (add-one, take-suc-set l i (f (getD m i d)) k, e, take-suc m i d h, map-append)

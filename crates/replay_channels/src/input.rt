@@ -8,23 +8,10 @@ pub fn head_room() -> [u8; 4]
     [0; 4]
 }
 
-pub fn row_room() -> [u8; 160]
-    ensures { λ r. ⌜ 160 ≡ length r ⌝ }
+pub fn visit_room() -> [u8; 4808]
+    ensures { λ r. ⌜ 4808 ≡ length r ⌝ }
 {
-    [0; 160]
-}
-
-pub fn marks_room() -> [u8; 40]
-    ensures { λ r. ⌜ 40 ≡ length r ⌝ }
-{
-    [0; 40]
-}
-
-// The 32 channels of a state.
-pub fn state_room() -> [u8; 2304]
-    ensures { λ r. ⌜ 2304 ≡ length r ⌝ }
-{
-    [0; 2304]
+    [0; 4808]
 }
 
 pub fn read_exact(fd: i32, buf: &mut [u8]) -> bool {

@@ -4,15 +4,15 @@ ghost use mathlib.Core.Path.{_≡_};
 ghost use lib.ListN.{length};
 use libc::STDOUT_FILENO;
 
-const ROWS: usize = 0;
+pub const ROWS: usize = 0;
 
-const CHANNELS: usize = 1;
+pub const CHANNELS: usize = 1;
 
-const STRIKES: usize = 2;
+pub const STRIKES: usize = 2;
 
-const VOLUMES: usize = 3;
+pub const VOLUMES: usize = 3;
 
-const MISREAD: usize = 4;
+pub const MISREAD: usize = 4;
 
 pub fn counters() -> [u64; 5]
     ensures { λ r. ⌜ 5 ≡ length r ⌝ }
@@ -20,28 +20,11 @@ pub fn counters() -> [u64; 5]
     [0; 5]
 }
 
-fn add(counts: &mut [u64], counter: usize, n: u64) {
+pub fn add(counts: &mut [u64], counter: usize, n: u64) {
     if counter < counts.len() {
         let before = counts[counter];
         counts[counter] = std::num::wrapping_add_u64(before, n);
     }
-}
-
-pub fn channel(counts: &mut [u64], same: bool) {
-    add(counts, ROWS, 1);
-    add(counts, CHANNELS, !same as u64);
-}
-
-pub fn strike(counts: &mut [u64], same: bool) {
-    add(counts, STRIKES, !same as u64);
-}
-
-pub fn volume(counts: &mut [u64], same: bool) {
-    add(counts, VOLUMES, !same as u64);
-}
-
-pub fn misread(counts: &mut [u64], yes: bool) {
-    add(counts, MISREAD, yes as u64);
 }
 
 fn print_count(name: &[u8], counts: &[u64], counter: usize) {

@@ -39,12 +39,11 @@ fn read_tunes(fd: i32, tunes: usize, counts: &mut [u64]) -> bool {
 // All tunes, behind which nothing more may stand.
 pub fn run(fd: i32, counts: &mut [u64]) {
     let mut head = input::head_room();
-    let mut more = input::head_room();
     if !read_exact(fd, &mut head) {
-        tally::misread(counts, true);
+        tally::add(counts, tally::MISREAD, 1);
         return;
     }
     let whole = read_tunes(fd, u32_at(&head, 0) as usize, counts);
-    let left = io::read_full(fd, &mut more);
-    tally::misread(counts, !whole | (left != 0));
+    let left = io::read_full(fd, &mut head);
+    tally::add(counts, tally::MISREAD, (!whole | (left != 0)) as u64);
 }

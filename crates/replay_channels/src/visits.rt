@@ -1,6 +1,7 @@
 // A visit: the row's cells, its marks, the channels before and after. The marks are the 32 S infos, the global volume,
 // Amiga limits, fast slides, the global volume that the leave sets, and the strike mask.
 ghost use mathlib.Core.Path.{_≡_};
+ghost use Prim.Native.Nat.{_+_, _≤_};
 ghost use lib.ListN.{length};
 use crate::decode::channel_part;
 use crate::decode::channels_of;
@@ -22,7 +23,11 @@ fn compare_channels(channels: [Channel; 32], after: &[u8], counts: &mut [u64])
     let mut i: usize = 0;
     while i < 32 {
         let c = channels[i];
-        tally::channel(counts, same_channel(c, channel_part(after, i)));
+        tally::add(
+            counts,
+            tally::CHANNELS,
+            !same_channel(c, channel_part(after, i)) as u64,
+        );
         i += 1;
     }
 }
@@ -32,7 +37,7 @@ fn compare_strikes(strikes: u32, recorded: u32, counts: &mut [u64]) {
     let mut right = recorded;
     let mut i: usize = 0;
     while i < 32 {
-        tally::strike(counts, left % 2 == right % 2);
+        tally::add(counts, tally::STRIKES, (left % 2 != right % 2) as u64);
         left = left / 2;
         right = right / 2;
         i += 1;
@@ -62,54 +67,41 @@ fn compare(r: Rowed, marks: &[u8], after: &[u8], counts: &mut [u64])
     let channels = r.channels;
     compare_channels(channels, after, counts);
     compare_strikes(r.strikes, u32_at(marks, 36), counts);
-    tally::volume(counts, r.global_volume == marks[35]);
-}
-
-// A visit's parts, one behind the other.
-fn read_parts(
-    fd: i32,
-    row: &mut [u8],
-    marks: &mut [u8],
-    before: &mut [u8],
-    after: &mut [u8],
-) -> bool {
-    if !read_exact(fd, row) {
-        return false;
-    }
-    if !read_exact(fd, marks) {
-        return false;
-    }
-    if !read_exact(fd, before) {
-        return false;
-    }
-    read_exact(fd, after)
-}
-
-fn read_visit(fd: i32, samples: &[u8], counts: &mut [u64]) -> bool {
-    let mut row = input::row_room();
-    let mut marks = input::marks_room();
-    let mut before = input::state_room();
-    let mut after = input::state_room();
-    if !read_parts(fd, &mut row, &mut marks, &mut before, &mut after) {
-        return false;
-    }
-    tally::misread(counts, !is_readable(&before));
-    compare(
-        entered(&row, &marks, &before, samples),
-        &marks,
-        &after,
+    tally::add(
         counts,
+        tally::VOLUMES,
+        (r.global_volume != marks[35]) as u64,
     );
-    true
+}
+
+fn part(visit: &[u8], from: usize, n: usize) -> &[u8]
+    requires { ⌜ from + n ≤ length (now visit) ⌝ }
+    ensures { λ r. ⌜ length (now r) ≡ n ⌝ }
+{
+    &visit[from..from + n]
+}
+
+fn compare_visit(visit: &[u8], samples: &[u8], counts: &mut [u64])
+    requires { ⌜ length (now visit) ≡ 4808 ⌝ }
+{
+    let row = part(visit, 0, 160);
+    let marks = part(visit, 160, 40);
+    let before = part(visit, 200, 2304);
+    let after = part(visit, 2504, 2304);
+    tally::add(counts, tally::ROWS, 32);
+    tally::add(counts, tally::MISREAD, !is_readable(before) as u64);
+    compare(entered(row, marks, before, samples), marks, after, counts);
 }
 
 // False where a visit is cut short.
 pub fn read_visits(fd: i32, visits: usize, samples: &[u8], counts: &mut [u64]) -> bool {
+    let mut visit = input::visit_room();
     let mut n: usize = 0;
     while n < visits {
-        if !read_visit(fd, samples, counts) {
+        if !read_exact(fd, &mut visit) {
             return false;
         }
+        compare_visit(&visit, samples, counts);
         n += 1;
     }
     true

@@ -29,7 +29,7 @@ use Rattle.row_path.specs.declared.machine.Entered.{Entered}
 use Rattle.row_path.proofs.Ends.{skipped-most}
 
 -- an absent byte, or one of at least n
-abbrev AtLeast : ℕ → ByteOption → Type 0
+abbrev pub AtLeast : ℕ → ByteOption → Type 0
 AtLeast n None = Unit
 AtLeast n (Some x) = n ≤ x
 
@@ -99,7 +99,7 @@ scoped-sound : (l : PatternLoop) (order : ℕ) → l .«start_row» ≤ 63 → s
 unfolding scoped
 scoped-sound l order h = choice (λ (k : PatternLoop). k .«start_row» ≤ 63) (isAt (l .order) order) (λ _. h) (λ _. omega arith)
 
-least : (o : ByteOption) (n before : ℕ) → AtLeast n o → n ≤ before → n ≤ orBefore o before
+pub least : (o : ByteOption) (n before : ℕ) → AtLeast n o → n ≤ before → n ≤ orBefore o before
 least None n before h b = b
 least (Some x) n before h b = h
 

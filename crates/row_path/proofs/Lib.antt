@@ -4,6 +4,7 @@ pub mod Named
 pub mod Ends
 pub mod Kept
 pub mod Unmoved
+pub mod Settled
 pub mod ReadsOnly
 pub mod Walks
 pub mod SoundWalks

@@ -34,6 +34,21 @@ pub record SoundEntered (e : Entered) : Type 0 where
   pub path : Sound (e .path)
   pub jump : SoundJump (e .jump)
 
+-- the part of it that holds of a table of any numbers
+pub record Settled (p : Path) : Type 0 where
+  pub row : p .place .row ≤ 63
+  pub start-row : p .«pattern_loop» .«start_row» ≤ 63
+  pub tempo : 32 ≤ p .clock .tempo
+  pub rate : p .clock .rate ≤ 100000
+
+abbrev pub SettledJump : Jump → Type 0
+SettledJump Stay = Unit
+SettledJump (To order row) = row ≤ 63
+
+pub record SettledEntered (e : Entered) : Type 0 where
+  pub path : Settled (e .path)
+  pub jump : SettledJump (e .jump)
+
 -- a table of bytes
 abbrev pub Bytes : List ℕ → Type 0
 Bytes s = (k : ℕ) → getD s k 0 < 256

@@ -265,6 +265,7 @@ fn go_on(n: usize, p: Path, at: Place) -> Path
 pub fn leave(orders: &[u8], e: Entered) -> Path
     requires { ⌜ (32 ≤ e .path .clock .tempo) × (e .path .clock .rate ≤ 100000) × (e .path .clock .start ≤ 2 ^ 63) ⌝ }
     ensures { λ r. ⌜ r ≡ left (now (orders .entry)) e ⌝ }
+    ensures within { λ r. ⌜ r .clock .start ≤ e .path .clock .start + 2 ^ 32 ⌝ }
 {
     let p = e.path;
     let jump = e.jump;

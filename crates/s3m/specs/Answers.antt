@@ -1,12 +1,10 @@
 -- What Measure and Read answer, and what they leave in the lent tables. Assumes nothing.
 use Prim.Native.Nat.{ℕ}
-use mathlib.Core.Bool.{false}
 use mathlib.Core.List.{List}
 use lib.Dec.{eqb}
-use lib.ListN.{length, replicate}
+use lib.ListN.{length}
 use Rattle.laws.specs.Choice.{pick}
-use Rattle.tune.specs.declared.opening.ChannelOpening.{ChannelOpening}
-use Rattle.tune.specs.declared.opening.Opening.{Opening}
+use Rattle.tune.specs.Opening.{blankOpening}
 use Rattle.s3m.specs.Layout.{countsOf, instrumentList, patternList, bytesAt}
 use Rattle.s3m.specs.Instruments.{samplesOf}
 use Rattle.s3m.specs.Patterns.{cellsOf}
@@ -29,27 +27,11 @@ abbrev pub measuredNumber : Measured → ℕ
 measuredNumber (Found c) = 0
 measuredNumber (Refused n) = n
 
--- the opening values that a refused Read gives: all 0
-abbrev pub blankChannel : ChannelOpening
-blankChannel = record { pan = 0; muted = false; «right_bank» = false; adlib = false }
-
-unfoldable pub blankOpening : Opening
-blankOpening =
-    record {
-      speed = 0;
-      tempo = 0;
-      «global_volume» = 0;
-      rate = 0;
-      «amiga_limits» = false;
-      «fast_slides» = false;
-      channels = replicate 32 blankChannel;
-    }
-
 -- why Read says no to a file and three lent tables, 0 where it does not
 abbrev pub refusalOf : List ℕ → List ℕ → List ℕ → List ℕ → ℕ
 refusalOf s orders samples cells = readRule s (length orders) (length samples) (length cells)
 
--- Read: done with the opening values, or the number of the first rule that the file or the tables' sizes break
+-- Read: done with the opening values, or the blank ones and the number of the first rule that the file or the tables' sizes break
 unfoldable pub reading : List ℕ → ℕ → ℕ → Reading
 reading s rate rule =
     pick (eqb rule 0)

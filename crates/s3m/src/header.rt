@@ -2,13 +2,14 @@
 ghost use mathlib.Core.Path.{_≡_};
 ghost use Prim.Native.Nat.{_+_, _*_, _≤_, _<_};
 ghost use lib.ListN.{length, getD};
-ghost use Rattle.laws.specs.Refusals.{refuse, orElse};
 ghost use Rattle.s3m.specs.Layout.{countsOf, listsEnd};
 ghost use Rattle.s3m.specs.Refusals.{rule1, rule2, rule3, rule4, rule5, headerRule, measureRule};
 ghost use Rattle.s3m.specs.Answers.{measured, measuredNumber};
 use tune::numbers::u16_at;
 use tune::numbers::u32_at;
 use tune::opening::levels_broken;
+use tune::refusals::first_of;
+use tune::refusals::refusal;
 
 pub struct Counts {
     pub orders: usize,
@@ -19,20 +20,6 @@ pub struct Counts {
 pub enum Measured {
     Found(Counts),
     Refused(u8),
-}
-
-// A rule's number where it is broken, else 0.
-pub fn refusal(number: u8, broken: bool) -> u8
-    ensures { λ r. ⌜ r ≡ refuse number broken ⌝ }
-{
-    if broken { number } else { 0 }
-}
-
-// The first of two refusals.
-pub fn first_of(a: u8, b: u8) -> u8
-    ensures { λ r. ⌜ r ≡ orElse a b ⌝ }
-{
-    if a == 0 { b } else { a }
 }
 
 // The counts, each of 16 bits.

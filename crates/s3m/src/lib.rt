@@ -9,20 +9,20 @@ ghost use Prim.Native.Nat.{_+_, _*_, _≤_, _<_};
 ghost use lib.ListN.{length};
 ghost use Rattle.s3m.specs.Layout.{countsOf, bytesAt};
 ghost use Rattle.s3m.specs.Refusals.{rule6, measureRule, tablesRule, readRule};
-ghost use Rattle.s3m.specs.Answers.{blankOpening, refusalOf, reading, readNumber, ordersAfter, samplesAfter, cellsAfter};
+ghost use Rattle.s3m.specs.Answers.{refusalOf, reading, readNumber, ordersAfter, samplesAfter, cellsAfter};
 use header::Counts;
 use header::counts_of;
-use header::first_of;
 use header::measure_rule;
-use header::refusal;
 use instruments::instruments_past;
 use instruments::read_samples;
 use opening::opening_of;
 use patterns::patterns_past;
 use patterns::read_cells;
-use tune::opening::ChannelOpening;
 use tune::opening::Opening;
+use tune::opening::blank_opening;
 use tune::parts::copy_whole;
+use tune::refusals::first_of;
+use tune::refusals::refusal;
 
 pub enum ReadAnswer {
     Done,
@@ -69,26 +69,6 @@ fn read_rule(file: &[u8], orders: usize, samples: usize, cells: usize) -> u8
         return refused;
     }
     tables_rule(file, orders, samples, cells)
-}
-
-fn blank_opening() -> Opening
-    ensures { λ r. ⌜ r ≡ blankOpening ⌝ }
-{
-    let blank = ChannelOpening {
-        pan: 0,
-        muted: false,
-        right_bank: false,
-        adlib: false,
-    };
-    Opening {
-        speed: 0,
-        tempo: 0,
-        global_volume: 0,
-        rate: 0,
-        amiga_limits: false,
-        fast_slides: false,
-        channels: [blank; 32],
-    }
 }
 
 fn read_orders(file: &[u8], n: usize, orders: &mut [u8])

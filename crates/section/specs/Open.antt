@@ -6,7 +6,7 @@ use lib.Dec.{eqb}
 use lib.ListN.{replicate}
 use Rattle.laws.specs.Choice.{pick}
 use Rattle.laws.specs.Refusals.{orElse}
-use Rattle.tune.specs.Opening.{rule10}
+use Rattle.tune.specs.Opening.{rule10, blankOpening}
 use Rattle.tune.specs.declared.opening.Opening.{Opening}
 use Rattle.row_path.specs.declared.option.ByteOption.the-variants.{None}
 use Rattle.row_path.specs.declared.machine.Path.{Path}
@@ -37,22 +37,10 @@ freshState o =
       switches = record { «amiga_limits» = o .«amiga_limits»; «fast_slides» = o .«fast_slides» };
     }
 
--- the opening values of the blank state, which stands beside a refusal
-unfoldable pub blank : Opening
-blank =
-    record {
-      speed = 0;
-      tempo = 0;
-      «global_volume» = 0;
-      rate = 0;
-      «amiga_limits» = false;
-      «fast_slides» = false;
-      channels = replicate 32 (record { pan = 0; muted = false; «right_bank» = false; adlib = false });
-    }
-
 -- rules 9 and 10, the first of them that is broken
 unfoldable pub openRule : Tables → Opening → ℕ
 openRule t o = orElse (tablesRule t) (rule10 o)
 
+-- the fresh state, or beside a refusal that of the blank opening values
 unfoldable pub openOf : Tables → Opening → Opened
-openOf t o = record { refusal = openRule t o; state = freshState (pick (eqb (openRule t o) 0) o blank) }
+openOf t o = record { refusal = openRule t o; state = freshState (pick (eqb (openRule t o) 0) o blankOpening) }

@@ -34,6 +34,16 @@ channelSize = 16
 abbrev pub recordSize : ℕ
 recordSize = headSize + 32 * channelSize
 
+-- where the start, the strike mask and the length stand in a row head
+abbrev pub startAt : ℕ
+startAt = 8
+
+abbrev pub strikesAt : ℕ
+strikesAt = 16
+
+abbrev pub lengthAt : ℕ
+lengthAt = 20
+
 -- order, pattern, row, held, speed, tempo, global volume, 0; 64-bit start; 32-bit strike mask; 32-bit length
 unfoldable pub rowHead : Entered → ℕ → ℕ → List ℕ
 rowHead e globalVolume strikes =

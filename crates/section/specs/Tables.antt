@@ -9,6 +9,10 @@ pub record Tables : Type 0 where
   pub cells : List ℕ
   pub samples : List ℕ
 
+-- the tables that three lent parts hold
+abbrev pub lent : List ℕ → List ℕ → List ℕ → Tables
+lent orders cells samples = record { orders = orders; cells = cells; samples = samples }
+
 -- a tune is these with its opening values
 pub record Tune : Type 0 where
   pub tables : Tables

@@ -1,8 +1,9 @@
 -- The opening values (01, rules 5 and 10). Assumes nothing.
 use Prim.Native.Nat.{ℕ}
-use mathlib.Core.Bool.{Bool, _||_, not}
+use mathlib.Core.Bool.{Bool, false, _||_, not}
 use mathlib.Core.List.{List}
 use lib.Dec.{eqb, ltb, leb}
+use lib.ListN.{replicate}
 use Rattle.laws.specs.Entries.{every}
 use Rattle.laws.specs.Refusals.{refuse}
 use Rattle.tune.specs.declared.opening.ChannelOpening.{ChannelOpening}
@@ -27,3 +28,19 @@ rule10 o =
     (levelsBroken (o .speed) (o .tempo) (o .«global_volume»)
     || not (pansKept (o .channels))
     || rateBroken (o .rate))
+
+-- the opening values beside a refusal: all 0
+abbrev pub blankChannel : ChannelOpening
+blankChannel = record { pan = 0; muted = false; «right_bank» = false; adlib = false }
+
+unfoldable pub blankOpening : Opening
+blankOpening =
+    record {
+      speed = 0;
+      tempo = 0;
+      «global_volume» = 0;
+      rate = 0;
+      «amiga_limits» = false;
+      «fast_slides» = false;
+      channels = replicate 32 blankChannel;
+    }

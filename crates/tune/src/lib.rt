@@ -3,5 +3,6 @@ pub mod cells;
 pub mod numbers;
 pub mod opening;
 pub mod parts;
+pub mod refusals;
 pub mod samples;
 pub mod sizes;

@@ -1,6 +1,6 @@
 // The opening values of a tune, and rule 10.
 ghost use mathlib.Core.Path.{_≡_};
-ghost use Rattle.tune.specs.Opening.{levelsBroken, rateBroken, pansKept, rule10};
+ghost use Rattle.tune.specs.Opening.{levelsBroken, rateBroken, pansKept, rule10, blankOpening};
 
 pub struct ChannelOpening {
     pub pan: u8,
@@ -59,4 +59,25 @@ pub fn opening_rule(o: Opening) -> u8
         return 10;
     }
     0
+}
+
+// The opening values beside a refusal, all 0.
+pub fn blank_opening() -> Opening
+    ensures { λ r. ⌜ r ≡ blankOpening ⌝ }
+{
+    let blank = ChannelOpening {
+        pan: 0,
+        muted: false,
+        right_bank: false,
+        adlib: false,
+    };
+    Opening {
+        speed: 0,
+        tempo: 0,
+        global_volume: 0,
+        rate: 0,
+        amiga_limits: false,
+        fast_slides: false,
+        channels: [blank; 32],
+    }
 }

@@ -27,8 +27,11 @@ channel-part-requires c κs = search needs
 same-channel-requires : tie.Need-same-channel-requires Inv-loop μ-loop
 same-channel-requires c κs = search needs
 
-channel-requires : tie.Need-channel-requires Inv-loop μ-loop
-channel-requires c κs = search needs
+cast-add : tie.Need-cast-add Inv-loop μ-loop
+cast-add c = search needs
+
+add-requires : tie.Need-add-requires Inv-loop μ-loop
+add-requires c κs = search needs
 
 add-i : tie.Need-add-i Inv-loop μ-loop
 add-i c = search needs
@@ -56,7 +59,8 @@ compare-channels-spec =
     array-copy-out-c
     channel-part-requires
     same-channel-requires
-    channel-requires
+    cast-add
+    add-requires
     add-i
     loop-less
     loop-again

@@ -15,8 +15,11 @@ abbrev μ-loop : tie.MeasureT-loop
 loop-holds : tie.Need-loop-holds Inv-loop μ-loop
 loop-holds c = search needs
 
-strike-requires : tie.Need-strike-requires Inv-loop μ-loop
-strike-requires c κs = search needs
+cast-add : tie.Need-cast-add Inv-loop μ-loop
+cast-add c = search needs
+
+add-requires : tie.Need-add-requires Inv-loop μ-loop
+add-requires c κs = search needs
 
 add-i : tie.Need-add-i Inv-loop μ-loop
 add-i c = search needs
@@ -40,7 +43,8 @@ compare-strikes-spec =
     Inv-loop
     μ-loop
     loop-holds
-    strike-requires
+    cast-add
+    add-requires
     add-i
     loop-less
     loop-again

@@ -7,22 +7,34 @@ use Rattle.replay_channels.proofs.visits.read_visits.Statement.{stateme
 use Rattle.replay_channels.proofs.visits.read_visits.Tie as tie
 
 abbrev Inv-loop : tie.InvT-loop
-Inv-loop fd visits samples counts₀ n₀ counts n = (n ≤ visits) × (length counts ≡ length counts₀)
+Inv-loop fd visits samples counts₀ visit₀ n₀ counts visit n = (n ≤ visits) × (length counts ≡ length counts₀) × (length visit ≡ 4808)
 
 abbrev μ-loop : tie.MeasureT-loop
-μ-loop fd visits samples counts₀ n₀ counts n = visits - n
+μ-loop fd visits samples counts₀ visit₀ n₀ counts visit n = visits - n
+
+visit-room-requires : tie.Need-visit-room-requires Inv-loop μ-loop
+visit-room-requires c κs = search needs
 
 loop-holds : tie.Need-loop-holds Inv-loop μ-loop
 loop-holds c = search needs
 
-read-visit-requires : tie.Need-read-visit-requires Inv-loop μ-loop
-read-visit-requires c κs = search needs
+slice-aggregate-read-exact : tie.Need-slice-aggregate-read-exact Inv-loop μ-loop
+slice-aggregate-read-exact c = search needs
+
+read-exact-requires : tie.Need-read-exact-requires Inv-loop μ-loop
+read-exact-requires c κs = search needs
 
 same-length : tie.Need-same-length Inv-loop μ-loop
 same-length c = search needs
 
 returns : tie.Need-returns Inv-loop μ-loop
 returns c = search needs
+
+slice-aggregate-compare-visit : tie.Need-slice-aggregate-compare-visit Inv-loop μ-loop
+slice-aggregate-compare-visit c = search needs
+
+compare-visit-requires : tie.Need-compare-visit-requires Inv-loop μ-loop
+compare-visit-requires c κs = search needs
 
 add-n : tie.Need-add-n Inv-loop μ-loop
 add-n c = search needs
@@ -45,10 +57,14 @@ read-visits-spec =
     (tie.spec
     Inv-loop
     μ-loop
+    visit-room-requires
     loop-holds
-    read-visit-requires
+    slice-aggregate-read-exact
+    read-exact-requires
     same-length
     returns
+    slice-aggregate-compare-visit
+    compare-visit-requires
     add-n
     loop-less
     loop-again

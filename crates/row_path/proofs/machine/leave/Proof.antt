@@ -1,6 +1,9 @@
 -- `row_path::machine::leave` meets its contract. Assumes nothing.
-use mathlib.Core.Path.{_∙_}
+use Prim.Native.Nat.{_≤_}
+use mathlib.Core.Path.{_≡_, _∙_}
+use native.Mathlib.Omega.{arith}
 use Rattle.row_path.specs.Leave.{left}
+use Rattle.row_path.proofs.Settled.{left-within}
 use borrow.Author.Needs.{needs}
 use Rattle.row_path.proofs.machine.leave.Statement.{statement}
 use Rattle.row_path.proofs.machine.leave.Tie as tie
@@ -11,9 +14,14 @@ jumps-requires c κs = search needs
 hold-on-requires : tie.Need-hold-on-requires
 hold-on-requires c κs = search needs
 
-returns : tie.Need-returns
+held : (c : tie.After-hold-on) → c .hold-on .result ≡ left (c .before .before .before .before .before .before .before .args .orders .now) (c .before .before .before .before .before .before .before .args .e)
 unfolding left
-returns c = c .hold-on .ensures ∙ rw (← c .before .before .jumps .ensures, c .before .if1 .taken)
+held c = c .hold-on .ensures ∙ rw (← c .before .before .jumps .ensures, c .before .if1 .taken)
+
+returns : tie.Need-returns
+returns c =
+    let a = c .before .before .before .before .before .before .before .args in
+    (held c, left-within (a .orders .now) (a .e) _ (omega arith) (c .before .before .before .before .before .before .before .pre .0) (c .before .before .before .before .before .before .before .pre .1) (held c))
 
 place-after-requires : tie.Need-place-after-requires
 place-after-requires c κs = search needs
@@ -21,9 +29,17 @@ place-after-requires c κs = search needs
 go-on-requires : tie.Need-go-on-requires
 go-on-requires c κs = search needs
 
-returns-2 : tie.Need-returns-2
+slow : (c : tie.Else1) → c .before .before .before .before .before .before .args .e .path .clock .speed ≤ 255
+slow c = omega arith
+
+gone : (c : tie.After-go-on) → c .go-on .result ≡ left (c .before .before .before .before .before .before .before .before .args .orders .now) (c .before .before .before .before .before .before .before .before .args .e)
 unfolding left
-returns-2 c = c .go-on .ensures ∙ rw (c .before .place-after .ensures, ← c .before .before .before .jumps .ensures, c .before .before .if1 .left)
+gone c = c .go-on .ensures ∙ rw (c .before .place-after .ensures, ← c .before .before .before .jumps .ensures, c .before .before .if1 .left)
+
+returns-2 : tie.Need-returns-2
+returns-2 c =
+    let a = c .before .before .before .before .before .before .before .before .args in
+    (gone c, left-within (a .orders .now) (a .e) _ (slow (c .before .before)) (c .before .before .before .before .before .before .before .before .pre .0) (c .before .before .before .before .before .before .before .before .pre .1) (gone c))
 
 pub leave-spec : {M : Type 1} → statement M
 leave-spec =

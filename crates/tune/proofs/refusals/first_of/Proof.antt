@@ -1,8 +1,8 @@
--- `s3m::header::first_of` meets its contract. Assumes nothing.
+-- `tune::refusals::first_of` meets its contract. Assumes nothing.
 use mathlib.Core.Path.{sym}
 use Rattle.laws.proofs.Rules.{first, next}
-use Rattle.s3m.proofs.header.first_of.Statement.{statement}
-use Rattle.s3m.proofs.header.first_of.Tie as tie
+use Rattle.tune.proofs.refusals.first_of.Statement.{statement}
+use Rattle.tune.proofs.refusals.first_of.Tie as tie
 
 returns : tie.Need-returns
 returns c = sym (next (c .before .args .a) (c .before .args .b) (c .if1 .taken))

@@ -1,0 +1,96 @@
+// Open.
+ghost use mathlib.Core.Path.{_≡_};
+ghost use mathlib.Core.List.{map};
+ghost use lib.ListN.{length};
+ghost use Rattle.channel.specs.Opening.{openedChannel};
+ghost use Rattle.section.specs.Tables.{lent};
+ghost use Rattle.section.specs.Open.{firstPath, freshState, openOf};
+use crate::state::Opened;
+use crate::state::State;
+use channel::state::Channel;
+use channel::state::Switches;
+use channel::state::open_channel;
+use row_path::loops::PatternLoop;
+use row_path::loops::Place;
+use row_path::machine::Clock;
+use row_path::machine::Hold;
+use row_path::machine::Path;
+use row_path::option::ByteOption;
+use tune::opening::ChannelOpening;
+use tune::opening::Opening;
+use tune::opening::blank_opening;
+use tune::opening::opening_rule;
+use tune::refusals::first_of;
+use tune::sizes::sizes_rule;
+
+fn first_path(o: Opening) -> Path
+    ensures { λ r. ⌜ r ≡ firstPath o ⌝ }
+{
+    Path {
+        place: Place { order: 0, row: 0 },
+        pattern_loop: PatternLoop {
+            order: ByteOption::None,
+            start_row: 0,
+            count: ByteOption::None,
+        },
+        hold: Hold {
+            left: 0,
+            held: false,
+        },
+        clock: Clock {
+            speed: o.speed,
+            tempo: o.tempo,
+            rate: o.rate,
+            start: 0,
+        },
+        ended: false,
+        s_info: [0; 32],
+    }
+}
+
+fn open_channels(openings: [ChannelOpening; 32]) -> [Channel; 32]
+    ensures { λ r. ⌜ r ≡ map openedChannel openings ⌝ }
+{
+    let first = openings[0];
+    let mut channels = [open_channel(first); 32];
+    let mut i: usize = 0;
+    while i < 32 {
+        let o = openings[i];
+        channels[i] = open_channel(o);
+        i += 1;
+    }
+    channels
+}
+
+fn fresh_state(o: Opening) -> State
+    ensures { λ r. ⌜ r ≡ freshState o ⌝ }
+{
+    let openings = o.channels;
+    let switches = Switches {
+        amiga_limits: o.amiga_limits,
+        fast_slides: o.fast_slides,
+    };
+    State {
+        path: first_path(o),
+        channels: open_channels(openings),
+        global_volume: o.global_volume,
+        switches,
+    }
+}
+
+// Open: the fresh state of a tune, or 9 or 10 and the blank state.
+pub fn open(orders: &[u8], cells: &[u8], samples: &[u8], o: Opening) -> Opened
+    ensures { λ r. ⌜ r ≡ openOf (lent (now (orders .entry)) (now (cells .entry)) (now (samples .entry))) o ⌝ }
+{
+    let rule = first_of(sizes_rule(orders, cells, samples), opening_rule(o));
+    if rule == 0 {
+        return Opened {
+            refusal: rule,
+            state: fresh_state(o),
+        };
+    }
+    Opened {
+        refusal: rule,
+        state: fresh_state(blank_opening()),
+    }
+}

@@ -1,0 +1,4 @@
+pub mod Struck
+pub mod Given
+pub mod Digits
+pub mod Spelling

@@ -1,0 +1,28 @@
+-- A record that a call is lent, and what it answers (01, 'From record to paper', rule 13). Assumes nothing.
+use Prim.Native.Nat.{ℕ}
+use mathlib.Core.Bool.{not, _||_}
+use mathlib.Core.List.{List}
+use lib.Dec.{eqb, ltb}
+use lib.Count.{ones}
+use lib.ListN.{length}
+use Rattle.laws.specs.Refusals.{refuse}
+use Rattle.tune.specs.Numbers.{littleAt}
+use Rattle.section.specs.Records.{recordSize, strikesAt}
+use Rattle.sheet.specs.declared.answer.Answer.{Answer}
+use Rattle.sheet.specs.declared.answer.Answer.the-variants.{Done, Refused}
+
+-- rule 13: the record is not 536 bytes, or the output is under so many
+unfoldable pub recordRule : List ℕ → ℕ → ℕ → ℕ
+recordRule r room least = refuse 13 (not (eqb (length r) recordSize) || ltb room least)
+
+-- 01's number of an answer: 0 where the call was done
+abbrev pub answerNumber : Answer → ℕ
+answerNumber (Done n) = 0
+answerNumber (Refused x) = x
+
+-- a record's strike mask, and how many channels it strikes
+abbrev pub maskOf : List ℕ → ℕ
+maskOf r = littleAt 4 r strikesAt
+
+abbrev pub strikeCount : List ℕ → ℕ
+strikeCount r = ones (maskOf r)
