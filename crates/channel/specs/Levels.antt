@@ -1,4 +1,4 @@
--- Silence, volumes and pans (the Rust's `clamp_pcm_volume`, `apply_dxy_tick0_fast_slide`, Dxy, SAx and Xxx). Assumes nothing.
+-- Silence, volumes and pans (the Rust's `clamp_pcm_volume`, `apply_dxy_tick0_fast_slide`, Dxy, SAx and X). Assumes nothing.
 use Prim.Native.Nat.{ℕ, _+_, _-_, _*_, _/_, _%_, min}
 use mathlib.Core.Bool.{Bool, false, _&&_, not}
 use lib.Dec.{eqb, ltb}
@@ -47,6 +47,6 @@ unfoldable pub stereoPan : ℕ → Bool → ℕ → ℕ
 stereoPan p right pan =
     pick (ltb p 4) (pick (eqb (p % 2) 0) (pick right 15 0) (pick right 0 15)) (pick (ltb p 8) 7 pan)
 
--- Xxx: 0 to 0x80 onto 0 to 15
+-- X: 0 to 0x80 onto 0 to 15
 abbrev pub setPan : ℕ → ℕ
 setPan info = min (info * 15 / 128) 15

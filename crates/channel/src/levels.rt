@@ -94,7 +94,7 @@ pub fn stereo_pan(p: u8, right: bool, pan: u8) -> u8
     choose(p < 8, 7, pan)
 }
 
-// Xxx.
+// X: an absolute pan.
 pub fn set_pan(info: u8) -> u8
     ensures { λ r. ⌜ r ≡ setPan info ⌝ }
 {
