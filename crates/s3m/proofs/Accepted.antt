@@ -1,5 +1,5 @@
 -- What a file that Measure or Read accepts has. Assumes nothing.
-use mathlib.Core.Path.{_≡_, subst⁻¹}
+use mathlib.Core.Path.{_≡_, sym, ap, _∙_, subst⁻¹}
 use mathlib.Core.Bool.{Bool, true, false, _&&_, _||_}
 use mathlib.Core.List.{List}
 use Prim.Native.Nat.{ℕ, _+_, _*_, _≤_, _<_}
@@ -14,6 +14,9 @@ use Rattle.laws.proofs.Rules.{sound, kept}
 use Rattle.s3m.specs.Layout.{countsOf, instrumentList, panList, hasPans, listsEnd}
 use Rattle.s3m.specs.Instruments.{instrumentsPast}
 use Rattle.s3m.specs.declared.header.Counts.{Counts}
+use Rattle.s3m.specs.declared.header.Measured.{Measured}
+use Rattle.s3m.specs.declared.header.Measured.the-variants.{Found, Refused}
+use Rattle.s3m.specs.Answers.{measured, measuredNumber}
 use Rattle.s3m.specs.Refusals.{rule1, rule2, rule3, rule4, rule5, rule6, rule7, rule8, headerRule, measureRule, tablesRule, readRule}
 
 pub record Accepted (s : List ℕ) : Type 0 where
@@ -94,3 +97,12 @@ ready s c orders samples cells e r =
       cells-whole = eqb-true cells (n .patterns * 10240) (third .1);
       instruments-in = kept 6 _ (seven .0);
     })
+
+-- the same of counts that Measure finds
+pub found-listed : (s : List ℕ) (c : Counts) → Found c ≡ measured s → measuredNumber (Found c) ≡ measureRule s → Listed s c
+unfolding measured
+found-listed s c e m = let found : measured s ≡ Found (countsOf s) = rw (sym m) in listed s c (ap counts (e ∙ found)) (sym m)
+  where
+    counts : Measured → Counts
+    counts (Found n) = n
+    counts (Refused n) = countsOf s

@@ -1,5 +1,6 @@
 pub mod Accepted
 pub mod Answers
+pub mod Counts
 pub mod Nans
 pub mod Ready
 pub mod Rounds

@@ -1,0 +1,18 @@
+-- Section gives no more rows than it is asked for. Assumes nothing.
+use Prim.Native.Nat.{ℕ, zero, suc, _≤_}
+use mathlib.Core.Path.{subst⁻¹}
+use native.Mathlib.Omega.{arith}
+use Rattle.row_path.proofs.Walks as path
+use Rattle.section.specs.declared.state.State.{State}
+use Rattle.section.specs.Tables.{Tables}
+use Rattle.section.specs.Walk.{walk}
+use Rattle.section.specs.Section.{sectionRule, gave, answerBy, sectionOf, sectioned}
+use Rattle.section.proofs.Walks.{walk-count}
+
+pub rows-most : (t : Tables) (s : State) (n room : ℕ) → sectioned (sectionOf t s n room) .rows ≤ n
+unfolding answerBy gave sectionOf sectioned
+rows-most t s n room = by-rule (sectionRule t s n room)
+  where
+    by-rule : (r : ℕ) → sectioned (answerBy r s (walk t n s)) .rows ≤ n
+    by-rule zero = subst⁻¹ (λ m. m ≤ n) (walk-count t n s) (path.rows-most (t .orders) (t .cells) n (s .path))
+    by-rule (suc r) = omega arith
