@@ -16,11 +16,13 @@ mod readers;
 mod record;
 mod replay;
 mod sheet;
+mod sheets;
 mod show;
 mod state;
 mod tally;
 mod tune;
 mod walk;
+mod writer;
 
 #[path = "standins/factors.rs"]
 mod factors;
@@ -46,6 +48,7 @@ use std::path::Path;
 use std::process::ExitCode;
 
 const USAGE: &str = "usage: oracle/run sheet < FILE
+       oracle/run sheets PROGRAM [SEED TUNES]
        oracle/run readers < FILE
        oracle/run example worked > FILE
        oracle/run record DIR | compare DIR | cover DIR | tally DIR
@@ -63,6 +66,7 @@ fn main() -> ExitCode {
     let words: Vec<&str> = args.iter().map(String::as_str).collect();
     let answer = match words[..] {
         ["sheet"] => standard_input().map(|file| sheet::sheet(&file).into_bytes()),
+        ["sheets", ref words @ ..] => sheets::report(words).map(String::into_bytes),
         ["readers"] => standard_input().map(|file| readers::report(&file).into_bytes()),
         ["example", "worked"] => Ok(example::worked()),
         ["record", dir] => record::record(Path::new(dir)).map(String::into_bytes),

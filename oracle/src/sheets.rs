@@ -1,0 +1,98 @@
+//! Holds the built program `rowsheet` against the original's sheets: of every recorded
+//! file, good or damaged, and of fresh tunes written as files.
+
+use crate::generate::{self, Purpose, files};
+use crate::random::Random;
+use crate::{sheet, writer};
+use std::collections::BTreeMap;
+use std::io::Write;
+use std::path::Path;
+use std::process::{Command, Stdio};
+use std::thread;
+
+const TUNES: u64 = 200;
+
+/// `words`: the program, then a seed and how many tunes, if said.
+pub fn report(words: &[&str]) -> Result<String, String> {
+    let usage = "usage: oracle/run sheets PROGRAM [SEED TUNES]";
+    let (program, seed, tunes) = match *words {
+        [program] => (program, 1, TUNES),
+        [program, seed, tunes] => match (seed.parse(), tunes.parse()) {
+            (Ok(seed), Ok(tunes)) => (program, seed, tunes),
+            _ => return Err(usage.to_string()),
+        },
+        _ => return Err(usage.to_string()),
+    };
+    let recorded = files::all().into_iter().map(|made| made.file);
+    let fresh = (seed..seed + tunes).map(fresh);
+    let mut told = Told::default();
+    for (i, file) in recorded.chain(fresh).enumerate() {
+        let ours = printed(Path::new(program), file.clone())?;
+        let original = sheet::sheet(&file);
+        if ours != original {
+            return Err(format!("file {i}: {program} says\n{ours}not\n{original}"));
+        }
+        told.add(&original);
+    }
+    Ok(told.report())
+}
+
+/// A tune of a seed as a file, walked from Open: steered, busy or made for walks.
+fn fresh(seed: u64) -> Vec<u8> {
+    let random = &mut Random::new(seed);
+    writer::write(&match seed % 3 {
+        0 => generate::steered_tune(random, seed),
+        1 => generate::tune(random, Purpose::Visits, seed),
+        _ => generate::tune(random, Purpose::Walks, seed),
+    })
+}
+
+/// What the program prints for a file on its standard input.
+fn printed(program: &Path, file: Vec<u8>) -> Result<String, String> {
+    let mut child = Command::new(program)
+        .stdin(Stdio::piped())
+        .stdout(Stdio::piped())
+        .spawn()
+        .map_err(|why| format!("{}: {why}", program.display()))?;
+    let mut input = child.stdin.take().expect("it was piped");
+    // A program that stops reading closes the pipe: what it prints is the answer.
+    let writing = thread::spawn(move || input.write_all(&file));
+    let output = child.wait_with_output().map_err(|why| why.to_string())?;
+    let _ = writing.join();
+    String::from_utf8(output.stdout).map_err(|why| why.to_string())
+}
+
+/// How the sheets end, and how many rows they have.
+#[derive(Default)]
+struct Told {
+    files: usize,
+    rows: usize,
+    endings: BTreeMap<String, usize>,
+}
+
+impl Told {
+    fn add(&mut self, sheet: &str) {
+        let last = sheet.lines().next_back().unwrap_or_default();
+        let ending = match last.split_once(',') {
+            Some((word @ ("end" | "more"), _)) => word,
+            _ => last,
+        };
+        self.files += 1;
+        self.rows += sheet.lines().count() - 2;
+        *self.endings.entry(ending.to_string()).or_default() += 1;
+    }
+
+    fn report(&self) -> String {
+        let endings: Vec<String> = self
+            .endings
+            .iter()
+            .map(|(ending, count)| format!("{count} {ending}"))
+            .collect();
+        format!(
+            "sheets: {} files and {} rows the same ({})\n",
+            self.files,
+            self.rows,
+            endings.join("; ")
+        )
+    }
+}

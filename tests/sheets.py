@@ -1,0 +1,100 @@
+#!/usr/bin/env python3
+"""Runs the built program rowsheet on files made from 01's worked example and compares what it prints, byte for byte.
+
+The expected lines are written here from 01 and never taken from the program: tests/sheets.py [PROGRAM]
+"""
+import pathlib
+import subprocess
+import sys
+
+ROOT = pathlib.Path(__file__).resolve().parent.parent
+TITLE = "order,pattern,row,held,speed,tempo,start,length,strikes\n"
+WORKED = (ROOT / "oracle/examples/worked.s3m").read_bytes()
+SHEET = (ROOT / "oracle/examples/worked.sheet").read_text()
+
+# Where the worked example has its orders, its two pointers, its instrument and its packed pattern.
+ORDERS, INSTRUMENT_POINTER, PATTERN_POINTER, INSTRUMENT, PACKED = 96, 97, 99, 112, 194
+
+
+def edited(*edits):
+    """The worked example with bytes put over its own, each edit a place and the bytes."""
+    out = bytearray(WORKED)
+    for at, new in edits:
+        out[at : at + len(new)] = new
+    return bytes(out)
+
+
+def word(n):
+    return n.to_bytes(2, "little")
+
+
+def refused(number):
+    return f"{TITLE}refused,{number}\n"
+
+
+def sheet(rows, last):
+    """The sheet of rows that are each given as order, row, held and strikes, at speed 6 and tempo 125."""
+    lines = [f"{order},0,{row},{held},6,125,{n * 7200},7200,{strikes}\n" for n, (order, row, held, strikes) in enumerate(rows)]
+    return TITLE + "".join(lines) + last + "\n"
+
+
+def many_patterns(n):
+    """One order and n patterns, none of which has a pointer."""
+    lists = bytes([0]) + word(0) * n
+    return edited((34, word(0)), (36, word(n)))[:ORDERS] + lists
+
+
+EMPTY = edited((PATTERN_POINTER, word(0)))
+CASES = [
+    ("01's worked example", WORKED, SHEET),
+    ("nothing", b"", refused(1)),
+    ("95 bytes", WORKED[:95], refused(1)),
+    ("no mark", edited((44, b"SCRN")), refused(2)),
+    ("no orders", edited((32, word(0))), refused(3)),
+    ("256 orders", edited((32, word(256))), refused(3)),
+    ("100 instruments", edited((34, word(100))), refused(3)),
+    ("101 patterns", edited((36, word(101))), refused(3)),
+    ("a list past the file", WORKED[:100], refused(4)),
+    ("pans past the file", edited((53, [252]))[:132], refused(4)),
+    ("speed 0", edited((49, [0])), refused(5)),
+    ("tempo 31", edited((50, [31])), refused(5)),
+    ("volume 65", edited((48, [65])), refused(5)),
+    ("an instrument past the file", edited((INSTRUMENT_POINTER, word(13))), refused(7)),
+    ("a pattern past the file", WORKED[:-1], refused(8)),
+    ("a pattern pointed past the file", edited((PATTERN_POINTER, word(4095))), refused(8)),
+    ("rule 7 before rule 8", edited((INSTRUMENT_POINTER, word(4095)), (PATTERN_POINTER, word(4095))), refused(7)),
+    ("rule 2 before rule 5", edited((44, b"SCRN"), (49, [0])), refused(2)),
+    ("7 patterns", many_patterns(7), refused(0)),
+    ("7 patterns and speed 0", many_patterns(7)[:49] + bytes([0]) + many_patterns(7)[50:], refused(5)),
+    ("7 patterns and an instrument past the file", edited((36, word(7)), (INSTRUMENT_POINTER, word(4095))), refused(0)),
+    ("6 patterns", many_patterns(6), sheet([(0, row, 0, 0) for row in range(64)], "end,64,460800")),
+    ("65,536 bytes", WORKED.ljust(65536, b"\0"), SHEET),
+    ("65,537 bytes", WORKED.ljust(65537, b"\0"), refused(0)),
+    ("65,537 bytes without a mark", bytes(65537), refused(0)),
+    ("a million bytes", bytes(1000000), refused(0)),
+    ("an empty pattern", EMPTY, sheet([(0, row, 0, 0) for row in range(64)], "end,64,460800")),
+    ("orders FE", edited((ORDERS, [0xFE])), f"{TITLE}end,0,0\n"),
+    ("orders FF", edited((ORDERS, [0xFF])), f"{TITLE}end,0,0\n"),
+    ("a pattern that is not there", edited((ORDERS, [1])), f"{TITLE}end,0,0\n"),
+    # The note with B00 on its row, in place of the hold: it is struck again for ever.
+    (
+        "an endless tune",
+        edited((PACKED, [0x20, 0x40, 0x01, 0x81, 0x02, 0x00, 0x00])),
+        sheet([(0, 0, 0, 1)] * 10000, "more,10000,72000000"),
+    ),
+]
+
+
+def main():
+    program = sys.argv[1] if len(sys.argv) > 1 else str(ROOT / "target/bin/rowsheet")
+    wrong = 0
+    for name, file, expected in CASES:
+        printed = subprocess.run([program], input=file, stdout=subprocess.PIPE, check=False).stdout.decode()
+        if printed != expected:
+            wrong += 1
+            print(f"sheets: {name}: printed {printed[-200:]!r}, not {expected[-200:]!r}", file=sys.stderr)
+    print(f"sheets: {len(CASES) - wrong} of {len(CASES)} files have the sheet that 01 gives")
+    sys.exit(1 if wrong else 0)
+
+
+main()
