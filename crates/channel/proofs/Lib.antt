@@ -5,5 +5,4 @@ pub mod Held
 pub mod Armed
 pub mod Numbered
 pub mod Resting
-pub mod Marked
 pub mod Visits

@@ -1,5 +1,5 @@
 -- The 108 periods fall strictly, by one computed test; and the bounds of a note's period. Assumes nothing.
-use mathlib.Core.Path.{_≡_, sym, subst}
+use mathlib.Core.Path.{_≡_, refl, sym, subst}
 use mathlib.Core.Logic.{inl, inr}
 use mathlib.Core.Bool.{Bool, true, _&&_}
 use Prim.Native.Nat.{ℕ, zero, suc, _*_, _≤_, _<_, max}
@@ -64,6 +64,11 @@ period-positive k h = above (periodOf (suc k)) (periodOf k) (at-entry k h .0)
 -- a period is at most 27392
 pub period-most : (k : ℕ) → k < 108 → periodOf k ≤ 27392
 period-most k h = le-of-suc-le-suc (at-entry k h .1)
+
+-- number 88's period is 170
+pub period-88 : periodOf 88 ≡ 170
+unfolding periodOf
+period-88 = refl
 
 -- a note's number is one of the table
 pub number-below : (note : ℕ) → noteNumber note < 108

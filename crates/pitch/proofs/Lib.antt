@@ -9,4 +9,4 @@ pub mod Factors
 pub mod Clamped
 pub mod Numbers
 pub mod Offsets
-pub mod Marked
+pub mod Ties

@@ -8,4 +8,3 @@ pub mod Settled
 pub mod ReadsOnly
 pub mod Walks
 pub mod SoundWalks
-pub mod Marked
