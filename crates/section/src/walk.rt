@@ -70,19 +70,18 @@ fn walk(
     ensures answer { λ r. ⌜ r ≡ sectioned (gave (spec.walk (lent (now (orders .entry)) (now (cells .entry)) (now (samples .entry))) n s)) ⌝ }
     ensures written { λ _. ⌜ now (output .exit) ≡ outputAfter (now (output .entry)) (gave (spec.walk (lent (now (orders .entry)) (now (cells .entry)) (now (samples .entry))) n s)) ⌝ }
 {
-    let w = s.switches;
     let mut path = s.path;
     let mut channels = s.channels;
     let mut global = s.global_volume;
     let mut rows: u32 = 0;
     while rows < n {
         if path.ended {
-            return given(rows, path, channels, global, w);
+            return given(rows, path, channels, global, s.switches);
         }
         let e = enter(orders, cells, path);
         let here = e.path;
         if here.ended {
-            return given(rows, here, channels, global, w);
+            return given(rows, here, channels, global, s.switches);
         }
         let at = rows as usize * 536;
         let row = row_cells(cells, e.pattern, here.place.row);
@@ -97,7 +96,7 @@ fn walk(
                 put_channel(output, at + 24 + i * 16, c);
                 i += 1;
             } else {
-                let played = enter_channel(c, cell, infos[i], samples, w, global);
+                let played = enter_channel(c, cell, infos[i], samples, s.switches, global);
                 let d = played.channel;
                 put_channel(output, at + 24 + i * 16, d);
                 channels[i] = d;
@@ -111,7 +110,7 @@ fn walk(
         global = waiting;
         rows += 1;
     }
-    given(rows, path, channels, global, w)
+    given(rows, path, channels, global, s.switches)
 }
 
 // Section: up to n rows, each a record of 536 bytes; or 9, 11 or 12 and the state that it was given.

@@ -11,25 +11,25 @@ use Rattle.section.proofs.walk.walk.Statement.{statement}
 use Rattle.section.proofs.walk.walk.Tie as tie
 
 abbrev Inv-loop2 : tie.InvT-loop2
-Inv-loop2 orders cells samples n output₀ w channels₀ global rows e here at row infos strikes₀ waiting₀ i₀ output channels strikes waiting i =
-    Visiting (here .hold .held) row infos samples w global at output₀ channels₀ output channels strikes waiting i
+Inv-loop2 orders cells samples s n output₀ channels₀ global rows e here at row infos strikes₀ waiting₀ i₀ output channels strikes waiting i =
+    Visiting (here .hold .held) row infos samples (s .switches) global at output₀ channels₀ output channels strikes waiting i
 
 abbrev μ-loop2 : tie.MeasureT-loop2
-μ-loop2 orders cells samples n output₀ w channels₀ global rows e here at row infos strikes₀ waiting₀ i₀ output channels strikes waiting i =
+μ-loop2 orders cells samples s n output₀ channels₀ global rows e here at row infos strikes₀ waiting₀ i₀ output channels strikes waiting i =
     32 - i
 
 abbrev Inv-loop : tie.InvT-loop
-Inv-loop orders cells samples n output₀ w path₀ channels₀ global₀ rows₀ output path channels global rows =
-    Round (lent orders cells samples) n output₀ (record { path = path₀; channels = channels₀; «global_volume» = global₀; switches = w }) output (record { path = path; channels = channels; «global_volume» = global; switches = w }) rows
+Inv-loop orders cells samples s n output₀ path₀ channels₀ global₀ rows₀ output path channels global rows =
+    Round (lent orders cells samples) n output₀ s output (record { path = path; channels = channels; «global_volume» = global; switches = s .switches }) rows
 
 abbrev μ-loop : tie.MeasureT-loop
-μ-loop orders cells samples n output₀ w path₀ channels₀ global₀ rows₀ output path channels global rows =
+μ-loop orders cells samples s n output₀ path₀ channels₀ global₀ rows₀ output path channels global rows =
     n - rows
 
 loop-holds : tie.Need-loop-holds Inv-loop2 μ-loop2 Inv-loop μ-loop
 loop-holds c =
-    round-start (ready _ _ _ _ (c .before .before .before .before .before .before .before .pre))
-    (simp length-map at (c .before .before .before .before .before .before .before .good .1 .1 .1 .0 .1 .1 .1 .0 .1 .0 .1)) (search needs)
+    round-start (ready _ _ _ _ (c .before .before .before .before .before .before .pre))
+    (simp length-map at (c .before .before .before .before .before .before .good .1 .1 .1 .0 .1 .1 .1 .0 .1 .0 .1)) (search needs)
 
 given-requires : tie.Need-given-requires Inv-loop2 μ-loop2 Inv-loop μ-loop
 given-requires c κs = search needs
@@ -61,7 +61,7 @@ mul-at : tie.Need-mul-at Inv-loop2 μ-loop2 Inv-loop μ-loop
 mul-at c = search needs
 
 -- what the row that is entered has
-entry : (c : tie.Else2 Inv-loop2 μ-loop2 Inv-loop μ-loop) → let a = c .before .before .before .before .before .before .before .before .before .before .before .before .before .args in Entry (lent (a .orders .now) (a .cells .now) (a .samples .now)) (c .before .before .enter .result)
+entry : (c : tie.Else2 Inv-loop2 μ-loop2 Inv-loop μ-loop) → let a = c .before .before .before .before .before .before .before .before .before .before .before .before .args in Entry (lent (a .orders .now) (a .cells .now) (a .samples .now)) (c .before .before .enter .result)
 entry c = round-entry (c .before .before .before .before .before .loop .inv) _ (c .before .before .enter .ensures) (c .if2 .left)
 
 row-cells-requires : tie.Need-row-cells-requires Inv-loop2 μ-loop2 Inv-loop μ-loop
