@@ -2,6 +2,7 @@ pub mod Steps
 pub mod Lengths
 pub mod Named
 pub mod Ends
+pub mod Keeping
 pub mod Kept
 pub mod Unmoved
 pub mod Settled

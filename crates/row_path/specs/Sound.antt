@@ -20,19 +20,19 @@ pub record Sound (p : Path) : Type 0 where
   pub moves : 1 ≤ p .clock .rate
   pub rate : p .clock .rate ≤ 100000
 
--- an absent byte, or one of at most n
-abbrev pub AtMost : ℕ → ByteOption → Type 0
-AtMost n None = Unit
-AtMost n (Some x) = x ≤ n
+-- an absent byte, or one of which P holds
+abbrev pub Each : (ℕ → Type 0) → ByteOption → Type 0
+Each P None = Unit
+Each P (Some x) = P x
 
--- a jump goes to a byte's order and to a row of a pattern
-abbrev pub SoundJump : Jump → Type 0
-SoundJump Stay = Unit
-SoundJump (To order row) = AtMost 255 order × (row ≤ 63)
+-- a jump goes to an order of which P holds, if it names one, and to a row of a pattern
+abbrev pub JumpTo : (ℕ → Type 0) → Jump → Type 0
+JumpTo P Stay = Unit
+JumpTo P (To order row) = Each P order × (row ≤ 63)
 
 pub record SoundEntered (e : Entered) : Type 0 where
   pub path : Sound (e .path)
-  pub jump : SoundJump (e .jump)
+  pub jump : JumpTo (λ x. x ≤ 255) (e .jump)
 
 -- the part of it that holds of a table of any numbers
 pub record Settled (p : Path) : Type 0 where
@@ -41,13 +41,9 @@ pub record Settled (p : Path) : Type 0 where
   pub tempo : 32 ≤ p .clock .tempo
   pub rate : p .clock .rate ≤ 100000
 
-abbrev pub SettledJump : Jump → Type 0
-SettledJump Stay = Unit
-SettledJump (To order row) = row ≤ 63
-
 pub record SettledEntered (e : Entered) : Type 0 where
   pub path : Settled (e .path)
-  pub jump : SettledJump (e .jump)
+  pub jump : JumpTo (λ _. Unit) (e .jump)
 
 -- a table of bytes
 abbrev pub Bytes : List ℕ → Type 0
