@@ -11,6 +11,7 @@ use Rattle.tune.proofs.Sized.{sized}
 use Rattle.section.specs.Tables.{Tune}
 use Rattle.section.specs.Open.{openRule}
 use Rattle.section.specs.Section.{Answer}
+use Rattle.section.specs.Typed.{ByteTables, ShapedOpening}
 use Rattle.noninterference.specs.Revoiced.{Revoiced, Lent}
 use Rattle.noninterference.specs.Calls.{answersOf}
 use Rattle.noninterference.specs.Machines.{opened}
@@ -47,3 +48,7 @@ channels-kept chosen A B cs lA lB oA oB R h =
 -- However the other channels are re-voiced, channel k stays the same: demand 3, for the set that has k alone.
 pub channel-kept : (k : ℕ) → ChannelKept k
 channel-kept k = channels-kept (eqb k)
+
+-- A tune that Open was called on is one whose tables and opening values have their types: Open promises it (`typed`)
+pub opened-lent : (u : Tune) → ByteTables (u .tables) × ShapedOpening (u .opening) → Lent u
+opened-lent u h = record { cells = h .0 .cells; speed = h .1 .speed; channels = h .1 .channels }

@@ -40,12 +40,12 @@ use Rattle.channel.proofs.Own.{channels-length, channel-at}
 use Rattle.section.specs.Tables.{Tables}
 use Rattle.section.specs.Machines.{rowPlayed}
 use Rattle.section.specs.Walk.{voicesOf}
+use Rattle.section.specs.Typed.{ShapedChannel, ByteTables}
 use Rattle.section.specs.declared.state.State.{State}
 use Rattle.original.specs.State.{Song, PlayerState}
 use Rattle.original.specs.Fields.{«self_channels», «self_order_index», «self_pending_global_vol», «self_loop_count», «self_loop_start_row», «self_loop_pattern_order», «self_strikes»}
 use Rattle.original.specs.Player.{anyChannel, Pass, pass, noLocals, scopeLoop, conclude, written, playRow, «find_next_playable_order», enterAt, «enter_row»}
 use Rattle.original.specs.Map.{songOf, rustChannel, rustChannels, playerOf, stateMap, waiting, waitingIn, rowFrom, isSome, playedMap, enteredMap}
-use Rattle.original.specs.Accepted.{ShapedChannel, ByteTables}
 use Rattle.original.proofs.Lists.{mask-none, mask-same}
 use Rattle.original.proofs.Scans.{scanOf}
 use Rattle.original.proofs.Conclude.{conclude-same}

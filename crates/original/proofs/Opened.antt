@@ -12,11 +12,11 @@ use Rattle.tune.specs.declared.opening.ChannelOpening.{ChannelOpening}
 use Rattle.tune.specs.declared.opening.Opening.{Opening}
 use Rattle.row_path.specs.Sound.{Bytes}
 use Rattle.channel.specs.Opening.{openedChannel}
+use Rattle.channel.specs.declared.state.Channel.{Channel}
 use Rattle.section.specs.Tables.{Tables, tablesRule}
 use Rattle.section.specs.Open.{firstPath, freshState}
 use Rattle.section.specs.Section.{pathBroken, channelBroken, stateRule}
-use Rattle.original.specs.Player.{anyChannel}
-use Rattle.original.specs.Accepted.{ShapedChannel, Shaped, ByteTables}
+use Rattle.section.specs.Typed.{ShapedChannel, Shaped, ByteTables}
 
 zero-bytes : (n : ℕ) → Bytes (replicate n 0)
 zero-bytes zero k = omega arith
@@ -35,10 +35,10 @@ opened-length : (os : List ChannelOpening) → length (map openedChannel os) ≡
 opened-length [] = refl
 opened-length (o ∷ os) = ap suc (opened-length os)
 
-opened-at : (os : List ChannelOpening) (i : ℕ) → i < length os → ShapedChannel (getD (map openedChannel os) i anyChannel)
-opened-at [] i h = absurd (omega arith)
-opened-at (o ∷ os) zero h = opened-channel o
-opened-at (o ∷ os) (suc i) h = opened-at os i (omega arith)
+opened-at : (os : List ChannelOpening) (i : ℕ) (d : Channel) → i < length os → ShapedChannel (getD (map openedChannel os) i d)
+opened-at [] i d h = absurd (omega arith)
+opened-at (o ∷ os) zero d h = opened-channel o
+opened-at (o ∷ os) (suc i) d h = opened-at os i d (omega arith)
 
 -- a fresh state has 32 channels, memories and S infos of 32 bytes
 pub fresh-shaped : (o : Opening) → length (o .channels) ≡ 32 → o .speed ≤ 255 → Shaped (freshState o)
@@ -46,7 +46,7 @@ unfolding freshState firstPath
 fresh-shaped o h f =
     record {
       channels = opened-length (o .channels) ∙ h;
-      channel = λ i b. opened-at (o .channels) i (omega (arith, h));
+      channel = λ i d b. opened-at (o .channels) i d (omega (arith, h));
       infos = length-zeros 32;
       order = omega arith;
       speed = f;

@@ -25,13 +25,13 @@ use Rattle.channel.specs.declared.state.Channel.{Channel}
 use Rattle.original.specs.State.{Song, Locals}
 use Rattle.original.specs.Player.{anySample, anyChannel, anyCell, Tick, Pass, playChannel, channelTick, storeTurn, turnAt, pass, noLocals}
 use Rattle.original.specs.Map.{rustChannel, rustChannels, waiting}
-use Rattle.original.specs.Accepted.{ShapedChannel}
 use Rattle.original.proofs.Lists.{here-or, mask-drop}
 use Rattle.original.proofs.Prepare.{infoAfter}
 use Rattle.original.proofs.Play.{lookup, Fits}
 use Rattle.original.proofs.TickZero.{spoken}
 use Rattle.original.proofs.OneChannel.{handed, turn-struck, turn-ch, turn-a}
 use Rattle.original.proofs.Scans.{scanOf, first-scan, hear-same, waits-same}
+use Rattle.section.specs.Typed.{ShapedChannel}
 
 -- a held row: every turn continues
 pub held-pass : (m : Song) (g : ℕ) (cells : List Cell) (n : ℕ) (l : Pass) → pass m g true cells n l ≡ l

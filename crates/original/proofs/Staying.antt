@@ -29,10 +29,9 @@ use Rattle.section.specs.Tables.{Tables}
 use Rattle.section.specs.Machines.{rowPlayed, voicesAfter}
 use Rattle.section.specs.Walk.{voicesOf, stateWith}
 use Rattle.section.specs.Section.{pathBroken, channelBroken, stateRule}
+use Rattle.section.specs.Typed.{ShapedChannel, Shaped, ByteTables}
 use Rattle.section.specs.declared.state.State.{State}
-use Rattle.original.specs.Player.{anyChannel}
 use Rattle.original.specs.Map.{rowFrom}
-use Rattle.original.specs.Accepted.{ShapedChannel, Shaped, ByteTables}
 use Rattle.original.proofs.Lists.{here-or}
 use Rattle.original.proofs.Leaving.{behind}
 
@@ -105,7 +104,7 @@ module _ (t : Tables) (s : State) (sized : Sized (t .orders) (t .cells) (t .samp
       record { memory = ap length m ∙ z .0; bytes = subst Bytes (sym m) (z .1) }
 
   abbrev Full : List Channel → Type 0
-  Full cs = (length cs ≡ 32) × ((i : ℕ) → i < 32 → ShapedChannel (getD cs i anyChannel))
+  Full cs = (length cs ≡ 32) × ((i : ℕ) (d : Channel) → i < 32 → ShapedChannel (getD cs i d))
 
   played-full : Full (rowPlayed t (s .switches) e (voicesOf s) .channels)
   unfolding rowPlayed rowVisited rowEntered
@@ -114,8 +113,8 @@ module _ (t : Tables) (s : State) (sized : Sized (t .orders) (t .cells) (t .samp
       (λ _. (shaped .channels, shaped .channel))
       (λ _. (
         channels-length row (e .path .«s_info») (t .samples) (s .switches) (s .«global_volume») (s .channels) ∙ shaped .channels,
-        λ i h. subst ShapedChannel (sym (channel-at row (e .path .«s_info») (t .samples) (s .switches) (s .«global_volume») (s .channels) i anyChannel (omega (arith, shaped .channels))))
-            (entered-shaped i (getD (s .channels) i anyChannel) (shaped .channel i h)),
+        λ i d h. subst ShapedChannel (sym (channel-at row (e .path .«s_info») (t .samples) (s .switches) (s .«global_volume») (s .channels) i d (omega (arith, shaped .channels))))
+            (entered-shaped i (getD (s .channels) i d) (shaped .channel i d h)),
       ))
 
   -- the path behind the row is sound

@@ -3,5 +3,4 @@ pub mod Fields
 pub mod Helpers
 pub mod Player
 pub mod Map
-pub mod Accepted
 pub mod Turns

@@ -14,6 +14,16 @@ unfolding answerBy
 refuses zero s w h = absurd (h refl)
 refuses (suc r) s w h = refl
 
+refusal-by : (r : ℕ) (s : State) (w : Walked) → sectioned (answerBy r s w) .refusal ≡ r
+unfolding answerBy gave sectioned
+refusal-by zero s w = refl
+refusal-by (suc r) s w = refl
+
+-- the number that an answer has is that of the first rule broken
+pub refusal-is : (t : Tables) (s : State) (n room : ℕ) → sectioned (sectionOf t s n room) .refusal ≡ sectionRule t s n room
+unfolding sectionOf
+refusal-is t s n room = refusal-by (sectionRule t s n room) s (walk t n s)
+
 module _ (t : Tables) (s : State) (n : ℕ) (out : List ℕ) (r : ℕ) (e : r ≡ sectionRule t s n (length out)) where
   answer-is : sectionOf t s n (length out) ≡ answerBy r s (walk t n s)
   unfolding sectionOf

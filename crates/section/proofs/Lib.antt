@@ -5,5 +5,6 @@ pub mod Nans
 pub mod Ready
 pub mod Rounds
 pub mod Sizes
+pub mod Typed
 pub mod Visiting
 pub mod Walks

@@ -1,4 +1,5 @@
 pub mod Tables
+pub mod Typed
 pub mod Open
 pub mod Records
 pub mod Machines

@@ -4,6 +4,7 @@ ghost use mathlib.Core.List.{map};
 ghost use lib.ListN.{length};
 ghost use Rattle.channel.specs.Opening.{openedChannel};
 ghost use Rattle.section.specs.Tables.{lent};
+ghost use Rattle.section.specs.Typed.{ByteTables, ShapedOpening};
 ghost use Rattle.section.specs.Open.{firstPath, freshState, openOf};
 use crate::state::Opened;
 use crate::state::State;
@@ -78,9 +79,10 @@ fn fresh_state(o: Opening) -> State
     }
 }
 
-// Open: the fresh state of a tune, or 9 or 10 and the blank state.
+// Open: the fresh state of a tune, or 9 or 10 and the blank state. `typed` has what the theorems on a tune presuppose.
 pub fn open(orders: &[u8], cells: &[u8], samples: &[u8], o: Opening) -> Opened
-    ensures { λ r. ⌜ r ≡ openOf (lent (now (orders .entry)) (now (cells .entry)) (now (samples .entry))) o ⌝ }
+    ensures answer { λ r. ⌜ r ≡ openOf (lent (now (orders .entry)) (now (cells .entry)) (now (samples .entry))) o ⌝ }
+    ensures typed { λ _. ⌜ ByteTables (lent (now (orders .entry)) (now (cells .entry)) (now (samples .entry))) × ShapedOpening o ⌝ }
 {
     let rule = first_of(sizes_rule(orders, cells, samples), opening_rule(o));
     if rule == 0 {

@@ -5,6 +5,7 @@ ghost use lib.ListN.{length};
 ghost use Rattle.channel.specs.Rest.{atRest, quiet};
 ghost use Rattle.section.specs.Tables.{lent};
 ghost use Rattle.section.specs.Section.{sectionRule, gave, sectionOf, sectioned, outputAfter};
+ghost use Rattle.section.specs.Typed.{ByteTables, Shaped};
 ghost use Rattle.section.specs.Walk as spec;
 use crate::record::put_channel;
 use crate::record::put_head;
@@ -113,7 +114,8 @@ fn walk(
     given(rows, path, channels, global, s.switches)
 }
 
-// Section: up to n rows, each a record of 536 bytes; or 9, 11 or 12 and the state that it was given.
+// Section: up to n rows, each a record of 536 bytes; or 9, 11 or 12 and the state that it was given. `typed` has what the
+// theorems on a call presuppose.
 pub fn section(
     orders: &[u8],
     cells: &[u8],
@@ -124,6 +126,7 @@ pub fn section(
 ) -> Sectioned
     ensures answer { λ r. ⌜ r ≡ sectioned (sectionOf (lent (now (orders .entry)) (now (cells .entry)) (now (samples .entry))) s n (length (now (output .entry)))) ⌝ }
     ensures written { λ _. ⌜ now (output .exit) ≡ outputAfter (now (output .entry)) (sectionOf (lent (now (orders .entry)) (now (cells .entry)) (now (samples .entry))) s n (length (now (output .entry)))) ⌝ }
+    ensures typed { λ _. ⌜ ByteTables (lent (now (orders .entry)) (now (cells .entry)) (now (samples .entry))) × Shaped s ⌝ }
 {
     let rule = section_rule(orders, cells, samples, s, n, output.len());
     if rule != 0 {
