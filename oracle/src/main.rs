@@ -15,6 +15,7 @@ mod reader;
 mod readers;
 mod record;
 mod replay;
+mod sections;
 mod sheet;
 mod sheets;
 mod show;
@@ -57,6 +58,8 @@ const USAGE: &str = "usage: oracle/run sheet < FILE
        oracle/run replay-pitch PROGRAM [SEED]
        oracle/run record-channels DIR | compare-channels DIR | cover-channels DIR | tally-channels DIR
        oracle/run replay-channels PROGRAM [SEED] [TUNES VISITS]
+       oracle/run record-sections DIR | compare-sections DIR | cover-sections DIR | tally-sections DIR
+       oracle/run replay-sections PROGRAM [SEED] [TUNES]
        oracle/run replay SEED TUNES VISITS [PROGRAM]
        oracle/run show FILE N [ROW]
        oracle/run powf";
@@ -86,6 +89,11 @@ fn main() -> ExitCode {
         ["tally-channels", dir] => channels::tally(Path::new(dir)).map(String::into_bytes),
         ["cover-channels", dir] => channels::cover(Path::new(dir)).map(String::into_bytes),
         ["replay-channels", ref words @ ..] => channels::replay(words).map(String::into_bytes),
+        ["record-sections", dir] => sections::record(Path::new(dir)).map(String::into_bytes),
+        ["compare-sections", dir] => sections::compare(Path::new(dir)).map(String::into_bytes),
+        ["tally-sections", dir] => sections::tally(Path::new(dir)).map(String::into_bytes),
+        ["cover-sections", dir] => sections::cover(Path::new(dir)).map(String::into_bytes),
+        ["replay-sections", ref words @ ..] => sections::replay(words).map(String::into_bytes),
         ["replay", seed, tunes, visits, ref program @ ..] => {
             replay([seed, tunes, visits], program).map(String::into_bytes)
         }

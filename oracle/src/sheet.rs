@@ -44,16 +44,20 @@ fn print(tune: &Tune) -> String {
 
 fn line(state: &State) -> String {
     let entered = state.entered.expect("a row was entered");
-    format!(
-        "{},{},{},{},{},{},{},{},{}\n",
-        state.order_index,
-        entered.pattern,
-        state.row,
-        u8::from(state.replaying_for_pattern_delay),
-        state.speed,
-        state.bpm,
+    line_of([
+        state.order_index.into(),
+        entered.pattern.into(),
+        state.row.into(),
+        state.replaying_for_pattern_delay.into(),
+        state.speed.into(),
+        state.bpm.into(),
         state.start,
-        entered.length,
-        entered.strikes.count_ones()
-    )
+        entered.length.into(),
+        entered.strikes.count_ones().into(),
+    ])
+}
+
+/// Order, pattern, row, held, speed, tempo, start, length and strikes.
+pub fn line_of(numbers: [u64; 9]) -> String {
+    numbers.map(|number| number.to_string()).join(",") + "\n"
 }

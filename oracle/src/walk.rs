@@ -1,4 +1,4 @@
-//! Walks a tune from Open with the original code, and lays out a row's record.
+//! Walks a tune with the original code, and lays out a row's record.
 
 use crate::player::bridge::{Original, open};
 use crate::state::{ChannelState, State};
@@ -6,11 +6,20 @@ use crate::tune::Tune;
 
 pub const RECORD_BYTES: usize = 536;
 
+/// 01's Section from Open.
+pub fn rows(tune: &Tune, limit: usize, each: impl FnMut(&State, &State)) -> State {
+    rows_from(tune, open(tune), limit, each)
+}
+
 /// Hands each row's state before and state entered to `each`, up to `limit` rows;
-/// gives the last state. This is 01's Section from Open.
-pub fn rows(tune: &Tune, limit: usize, mut each: impl FnMut(&State, &State)) -> State {
+/// gives the last state. This is 01's Section.
+pub fn rows_from(
+    tune: &Tune,
+    mut state: State,
+    limit: usize,
+    mut each: impl FnMut(&State, &State),
+) -> State {
     let mut original = Original::new(tune);
-    let mut state = open(tune);
     let mut out = 0;
     while !state.ended && out < limit {
         let entered = original.enter(&state);
