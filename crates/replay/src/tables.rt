@@ -4,19 +4,23 @@ ghost use Prim.Native.Nat.{_+_, _*_, _≤_, _<_};
 ghost use lib.ListN.{length};
 use crate::path::HEAD;
 use crate::path::RECORD;
-use crate::path::STATE;
 use crate::path::compare_last;
 use crate::path::compare_row;
 use crate::path::compare_visit;
 use crate::path::opened;
 use crate::tally;
+use recorded::input;
+use recorded::input::first;
+use recorded::input::read_exact;
+use recorded::tables::Head;
+use recorded::tables::head_of;
+use recorded::tables::opening_of;
+use recorded::tables::read_tables;
+use recorded::tally::add;
 use row_path::machine::Path;
 use tune::cells::cell_of;
 use tune::cells::row_cells;
-use tune::numbers::u16_at;
-use tune::numbers::u32_at;
 use tune::numbers::wide;
-use tune::opening::ChannelOpening;
 use tune::opening::Opening;
 use tune::opening::opening_rule;
 use tune::samples::Sample;
@@ -25,24 +29,6 @@ use tune::samples::sample_of;
 use tune::sizes::sizes_rule;
 
 // Room for what is read. The contracts give the lengths alone: the zeros would stand in each goal.
-fn head_room() -> [u8; 16]
-    ensures { λ r. ⌜ 16 ≡ length r ⌝ }
-{
-    [0; 16]
-}
-
-fn opening_room() -> [u8; 144]
-    ensures { λ r. ⌜ 144 ≡ length r ⌝ }
-{
-    [0; 144]
-}
-
-fn state_room() -> [u8; STATE]
-    ensures { λ r. ⌜ 2368 ≡ length r ⌝ }
-{
-    [0; STATE]
-}
-
 fn left_room() -> [u8; HEAD]
     ensures { λ r. ⌜ 64 ≡ length r ⌝ }
 {
@@ -53,10 +39,6 @@ fn record_room() -> [u8; RECORD]
     ensures { λ r. ⌜ 536 ≡ length r ⌝ }
 {
     [0; RECORD]
-}
-
-fn read_exact(fd: i32, buf: &mut [u8]) -> bool {
-    io::read_full(fd, buf) == buf.len()
 }
 
 // The three parts of a visit, one behind the other.
@@ -70,58 +52,26 @@ fn read_parts(fd: i32, before: &mut [u8], entered: &mut [u8], left: &mut [u8]) -
     read_exact(fd, left)
 }
 
-fn channel_of(bytes: &[u8], channel: usize) -> ChannelOpening
-    requires { ⌜ (length (now bytes) ≡ 144) × (channel < 32) ⌝ }
-{
-    let at = 16 + channel * 4;
-    ChannelOpening {
-        pan: bytes[at],
-        muted: bytes[at + 1] != 0,
-        right_bank: bytes[at + 2] != 0,
-        adlib: bytes[at + 3] != 0,
-    }
-}
-
-fn opening_of(bytes: &[u8]) -> Opening
-    requires { ⌜ length (now bytes) ≡ 144 ⌝ }
-{
-    let mut channels = [channel_of(bytes, 0); 32];
-    let mut channel: usize = 1;
-    while channel < 32 {
-        channels[channel] = channel_of(bytes, channel);
-        channel += 1;
-    }
-    Opening {
-        speed: bytes[0],
-        tempo: bytes[1],
-        global_volume: bytes[2],
-        rate: u32_at(bytes, 8),
-        amiga_limits: bytes[3] != 0,
-        fast_slides: bytes[4] != 0,
-        channels,
-    }
-}
-
 fn tally_cells(row: &[u8], counts: &mut [u64])
     requires { ⌜ length (now row) ≡ 160 ⌝ }
 {
     let mut channel: usize = 0;
     while channel < 32 {
         let cell = cell_of(row, channel);
-        tally::add(counts, tally::of_command(cell.command), 1);
+        add(counts, tally::of_command(cell.command), 1);
         channel += 1;
     }
 }
 
 // A held visit reads no cell; a pattern that is not there ends the tune.
 fn tally_visit(cells: &[u8], pattern: u8, row: u8, held: u8, counts: &mut [u64]) {
-    tally::add(counts, tally::VISITS, 1);
+    add(counts, tally::VISITS, 1);
     if held != 0 {
-        tally::add(counts, tally::HELD, 1);
+        add(counts, tally::HELD, 1);
         return;
     }
     if cells.len() < wide(pattern) * 10240 + 10240 {
-        tally::add(counts, tally::ENDED, 1);
+        add(counts, tally::ENDED, 1);
         return;
     }
     if row < 64 {
@@ -132,8 +82,8 @@ fn tally_visit(cells: &[u8], pattern: u8, row: u8, held: u8, counts: &mut [u64])
 
 // A visit: the state before, the state entered, and the head of the state left.
 fn read_visit(fd: i32, orders: &[u8], cells: &[u8], counts: &mut [u64]) -> bool {
-    let mut before = state_room();
-    let mut entered = state_room();
+    let mut before = input::state_room();
+    let mut entered = input::state_room();
     let mut left = left_room();
     if !read_parts(fd, &mut before, &mut entered, &mut left) {
         return false;
@@ -175,7 +125,7 @@ fn read_row(fd: i32, path: Path, orders: &[u8], cells: &[u8], counts: &mut [u64]
 
 // The state behind a walk.
 fn read_last(fd: i32, path: Path, orders: &[u8], cells: &[u8], counts: &mut [u64]) -> bool {
-    let mut state = state_room();
+    let mut state = input::state_room();
     if !read_exact(fd, &mut state) {
         return false;
     }
@@ -217,68 +167,18 @@ fn tally_samples(samples: &[u8], counts: &mut [u64]) {
 }
 
 fn tally_sample(sample: Sample, counts: &mut [u64]) {
-    tally::add(counts, tally::SAMPLES, 1);
-    tally::add(counts, tally::LOOPED, sample.looped as u64);
-    tally::add(counts, tally::ADLIB, sample.is_adlib() as u64);
-    tally::add(counts, tally::C5_SUM, sample.c5_speed as u64);
-}
-
-// How many bytes a tune's tables have, and how many visits follow.
-struct Head {
-    orders: usize,
-    samples: usize,
-    cells: usize,
-    visits: usize,
-}
-
-fn head_of(bytes: &[u8]) -> Head
-    requires { ⌜ length (now bytes) ≡ 16 ⌝ }
-{
-    Head {
-        orders: u16_at(bytes, 0),
-        samples: u16_at(bytes, 2) * 20,
-        cells: u16_at(bytes, 4) * 10240,
-        visits: u16_at(bytes, 6),
-    }
-}
-
-// Fills the first n bytes; false where there are fewer.
-fn read_first(fd: i32, table: &mut [u8], n: usize) -> bool {
-    if table.len() < n {
-        return false;
-    }
-    read_exact(fd, &mut table[..n])
-}
-
-fn read_tables(
-    fd: i32,
-    head: Head,
-    orders: &mut [u8],
-    samples: &mut [u8],
-    cells: &mut [u8],
-) -> bool {
-    if !read_first(fd, orders, head.orders) {
-        return false;
-    }
-    if !read_first(fd, samples, head.samples) {
-        return false;
-    }
-    read_first(fd, cells, head.cells)
-}
-
-fn first(table: &[u8], n: usize) -> &[u8] {
-    if table.len() < n {
-        return table;
-    }
-    &table[..n]
+    add(counts, tally::SAMPLES, 1);
+    add(counts, tally::LOOPED, sample.looped as u64);
+    add(counts, tally::ADLIB, sample.is_adlib() as u64);
+    add(counts, tally::C5_SUM, sample.c5_speed as u64);
 }
 
 // What a tune's tables hold, and whether rule 9 or 10 refuses them.
 fn tally_tables(opening: Opening, orders: &[u8], samples: &[u8], cells: &[u8], counts: &mut [u64]) {
     let sizes = sizes_rule(orders, cells, samples);
     let values = opening_rule(opening);
-    tally::add(counts, tally::TUNES, 1);
-    tally::add(
+    add(counts, tally::TUNES, 1);
+    add(
         counts,
         tally::REFUSED,
         ((sizes != 0) | (values != 0)) as u64,
@@ -305,15 +205,15 @@ fn tally_answers(
     let opening = opening_of(opening);
     tally_tables(opening, orders, samples, cells, counts);
     if walks {
-        return tally_walk(fd, head.visits, opened(opening), orders, cells, counts);
+        return tally_walk(fd, head.answers, opened(opening), orders, cells, counts);
     }
-    tally_visits(fd, head.visits, orders, cells, counts)
+    tally_visits(fd, head.answers, orders, cells, counts)
 }
 
 // A tune, or false behind the last one, where a head of zeros stands.
 fn tally_tune(fd: i32, walks: bool, counts: &mut [u64]) -> bool {
-    let mut first_bytes = head_room();
-    let mut opening = opening_room();
+    let mut first_bytes = input::head_room();
+    let mut opening = input::opening_room();
     let mut orders = io::buffer();
     let mut samples = io::buffer();
     let mut cells = io::large_buffer();

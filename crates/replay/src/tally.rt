@@ -1,7 +1,9 @@
 // Counters: commands 0 to 26 in their own, greater ones in 27, then those named here.
 ghost use mathlib.Core.Path.{_≡_};
 ghost use lib.ListN.{length};
-use libc::STDOUT_FILENO;
+use recorded::tally::add;
+use recorded::tally::print_count;
+use recorded::tally::print_numbered;
 use tune::numbers::wide;
 
 const ABOVE: usize = 27;
@@ -38,31 +40,14 @@ pub fn of_command(command: u8) -> usize {
     if command <= 26 { wide(command) } else { ABOVE }
 }
 
-pub fn add(counts: &mut [u64], counter: usize, n: u64) {
-    if counter < counts.len() {
-        let before = counts[counter];
-        counts[counter] = std::num::wrapping_add_u64(before, n);
-    }
-}
-
 // Counts a comparison of the path machine with what was recorded.
 pub fn compared(counts: &mut [u64], agrees: bool) {
     add(counts, COMPARED, 1);
     add(counts, DIFFERENT, !agrees as u64);
 }
 
-fn print_count(name: &[u8], counts: &[u64], counter: usize) {
-    if counter < counts.len() {
-        io::write_all(STDOUT_FILENO, name);
-        io::print_decimal(STDOUT_FILENO, counts[counter]);
-        io::write_all(STDOUT_FILENO, b"\n");
-    }
-}
-
 fn print_command(counts: &[u64], command: usize) {
-    io::write_all(STDOUT_FILENO, b"command ");
-    io::print_decimal(STDOUT_FILENO, command as u64);
-    print_count(b": ", counts, command);
+    print_numbered(b"command ", counts, command, command as u64);
 }
 
 fn print_commands(counts: &[u64]) {

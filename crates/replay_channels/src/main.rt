@@ -1,9 +1,5 @@
 // Holds the channels' half of a row, `channel::channels::enter_channels`, against recorded answers of the original Rust
 // (oracle/README.md has the layout). What it prints is compared with the tally of the recorded answers.
-mod decode;
-mod floats;
-mod input;
-mod same;
 mod tally;
 mod tunes;
 mod visits;

@@ -2,7 +2,7 @@
 // and what could not be read.
 ghost use mathlib.Core.Path.{_≡_};
 ghost use lib.ListN.{length};
-use libc::STDOUT_FILENO;
+use recorded::tally::print_count;
 
 pub const ROWS: usize = 0;
 
@@ -18,21 +18,6 @@ pub fn counters() -> [u64; 5]
     ensures { λ r. ⌜ 5 ≡ length r ⌝ }
 {
     [0; 5]
-}
-
-pub fn add(counts: &mut [u64], counter: usize, n: u64) {
-    if counter < counts.len() {
-        let before = counts[counter];
-        counts[counter] = std::num::wrapping_add_u64(before, n);
-    }
-}
-
-fn print_count(name: &[u8], counts: &[u64], counter: usize) {
-    if counter < counts.len() {
-        io::write_all(STDOUT_FILENO, name);
-        io::print_decimal(STDOUT_FILENO, counts[counter]);
-        io::write_all(STDOUT_FILENO, b"\n");
-    }
 }
 
 // Each counter with its name, a line each.

@@ -1,18 +1,19 @@
 // The tunes, one by one: the samples of each, then its visits.
 ghost use mathlib.Core.Path.{_≡_};
 ghost use lib.ListN.{length};
-use crate::input;
-use crate::input::first;
-use crate::input::read_exact;
-use crate::input::read_first;
 use crate::tally;
 use crate::visits::read_visits;
+use recorded::input;
+use recorded::input::first;
+use recorded::input::read_exact;
+use recorded::input::read_first;
+use recorded::tally::add;
 use tune::numbers::u16_at;
 use tune::numbers::u32_at;
 
 // False where a tune is cut short.
 fn read_tune(fd: i32, counts: &mut [u64]) -> bool {
-    let mut head = input::head_room();
+    let mut head = input::number_room();
     let mut table = io::buffer();
     if !read_exact(fd, &mut head) {
         return false;
@@ -38,12 +39,12 @@ fn read_tunes(fd: i32, tunes: usize, counts: &mut [u64]) -> bool {
 
 // All tunes, behind which nothing more may stand.
 pub fn run(fd: i32, counts: &mut [u64]) {
-    let mut head = input::head_room();
+    let mut head = input::number_room();
     if !read_exact(fd, &mut head) {
-        tally::add(counts, tally::MISREAD, 1);
+        add(counts, tally::MISREAD, 1);
         return;
     }
     let whole = read_tunes(fd, u32_at(&head, 0) as usize, counts);
     let left = io::read_full(fd, &mut head);
-    tally::add(counts, tally::MISREAD, (!whole | (left != 0)) as u64);
+    add(counts, tally::MISREAD, (!whole | (left != 0)) as u64);
 }

@@ -3,19 +3,26 @@
 ghost use mathlib.Core.Path.{_≡_};
 ghost use Prim.Native.Nat.{_+_, _≤_};
 ghost use lib.ListN.{length};
-use crate::decode::channel_part;
-use crate::decode::channels_of;
-use crate::decode::is_readable;
-use crate::decode::s_infos_of;
-use crate::input;
-use crate::input::read_exact;
-use crate::same::same_channel;
 use crate::tally;
 use channel::channels::Rowed;
 use channel::channels::enter_channels;
 use channel::state::Channel;
 use channel::state::Switches;
+use recorded::channels::channel_part;
+use recorded::channels::channels_of;
+use recorded::channels::is_readable;
+use recorded::input::read_exact;
+use recorded::parts::part;
+use recorded::same::same_channel;
+use recorded::tally::add;
 use tune::numbers::u32_at;
+
+// The contract gives the length alone: the zeros would stand in each goal.
+fn visit_room() -> [u8; 4808]
+    ensures { λ r. ⌜ 4808 ≡ length r ⌝ }
+{
+    [0; 4808]
+}
 
 fn compare_channels(channels: [Channel; 32], after: &[u8], counts: &mut [u64])
     requires { ⌜ length (now after) ≡ 2304 ⌝ }
@@ -23,7 +30,7 @@ fn compare_channels(channels: [Channel; 32], after: &[u8], counts: &mut [u64])
     let mut i: usize = 0;
     while i < 32 {
         let c = channels[i];
-        tally::add(
+        add(
             counts,
             tally::CHANNELS,
             !same_channel(c, channel_part(after, i)) as u64,
@@ -37,11 +44,23 @@ fn compare_strikes(strikes: u32, recorded: u32, counts: &mut [u64]) {
     let mut right = recorded;
     let mut i: usize = 0;
     while i < 32 {
-        tally::add(counts, tally::STRIKES, (left % 2 != right % 2) as u64);
+        add(counts, tally::STRIKES, (left % 2 != right % 2) as u64);
         left = left / 2;
         right = right / 2;
         i += 1;
     }
+}
+
+fn s_infos_of(marks: &[u8]) -> [u8; 32]
+    requires { ⌜ length (now marks) ≡ 40 ⌝ }
+{
+    let mut infos: [u8; 32] = [0; 32];
+    let mut i: usize = 0;
+    while i < 32 {
+        infos[i] = marks[i];
+        i += 1;
+    }
+    infos
 }
 
 fn entered(row: &[u8], marks: &[u8], before: &[u8], samples: &[u8]) -> Rowed
@@ -67,18 +86,11 @@ fn compare(r: Rowed, marks: &[u8], after: &[u8], counts: &mut [u64])
     let channels = r.channels;
     compare_channels(channels, after, counts);
     compare_strikes(r.strikes, u32_at(marks, 36), counts);
-    tally::add(
+    add(
         counts,
         tally::VOLUMES,
         (r.global_volume != marks[35]) as u64,
     );
-}
-
-fn part(visit: &[u8], from: usize, n: usize) -> &[u8]
-    requires { ⌜ from + n ≤ length (now visit) ⌝ }
-    ensures { λ r. ⌜ length (now r) ≡ n ⌝ }
-{
-    &visit[from..from + n]
 }
 
 fn compare_visit(visit: &[u8], samples: &[u8], counts: &mut [u64])
@@ -88,14 +100,14 @@ fn compare_visit(visit: &[u8], samples: &[u8], counts: &mut [u64])
     let marks = part(visit, 160, 40);
     let before = part(visit, 200, 2304);
     let after = part(visit, 2504, 2304);
-    tally::add(counts, tally::ROWS, 32);
-    tally::add(counts, tally::MISREAD, !is_readable(before) as u64);
+    add(counts, tally::ROWS, 32);
+    add(counts, tally::MISREAD, !is_readable(before) as u64);
     compare(entered(row, marks, before, samples), marks, after, counts);
 }
 
 // False where a visit is cut short.
 pub fn read_visits(fd: i32, visits: usize, samples: &[u8], counts: &mut [u64]) -> bool {
-    let mut visit = input::visit_room();
+    let mut visit = visit_room();
     let mut n: usize = 0;
     while n < visits {
         if !read_exact(fd, &mut visit) {

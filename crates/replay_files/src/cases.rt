@@ -6,15 +6,18 @@ use crate::cells::same_cells;
 use crate::compare::Measure;
 use crate::compare::measure_of;
 use crate::compare::number_of;
-use crate::compare::same_bytes;
 use crate::compare::same_measure;
 use crate::compare::same_opening;
-use crate::compare::untouched;
 use crate::input;
-use crate::input::first;
-use crate::input::read_exact;
-use crate::input::read_first;
 use crate::tally;
+use recorded::input::first;
+use recorded::input::number_room;
+use recorded::input::opening_room;
+use recorded::input::read_exact;
+use recorded::input::read_first;
+use recorded::parts::same_bytes;
+use recorded::parts::untouched;
+use recorded::tally::add;
 use s3m::Reading;
 use tune::numbers::u16_at;
 use tune::numbers::u32_at;
@@ -73,7 +76,7 @@ fn head_of(bytes: &[u8]) -> Head
 
 fn measure_agrees(file: &[u8], recorded: Measure, counts: &mut [u64]) -> bool {
     let found = measure_of(s3m::header::measure(file));
-    tally::add(counts, tally::MEASURE + wide(found.number), 1);
+    add(counts, tally::MEASURE + wide(found.number), 1);
     same_measure(found, recorded)
 }
 
@@ -106,7 +109,7 @@ fn done_agrees(
     cells: &[u8],
     counts: &mut [u64],
 ) -> bool {
-    let mut values = input::opening_room();
+    let mut values = opening_room();
     let mut order_bytes = io::buffer();
     let mut sample_bytes = io::buffer();
     let mut named = io::large_buffer();
@@ -144,7 +147,7 @@ fn read_agrees(fd: i32, head: Head, file: &[u8], counts: &mut [u64]) -> bool
     );
     let answer = reading.answer;
     let number = number_of(answer);
-    tally::add(counts, tally::READ + wide(number), 1);
+    add(counts, tally::READ + wide(number), 1);
     let orders = first(&all_orders, head.lent_orders);
     let samples = first(&all_samples, head.lent_samples);
     let cells = first(&all_cells, head.lent_cells);
@@ -185,7 +188,7 @@ fn run_cases(fd: i32, cases: usize, counts: &mut [u64]) {
     let mut n: usize = 0;
     while n < cases {
         let same = case_agrees(fd, counts);
-        tally::add(counts, tally::FILES, 1);
+        add(counts, tally::FILES, 1);
         tally::add_different(counts, same);
         n += 1;
     }
@@ -193,8 +196,8 @@ fn run_cases(fd: i32, cases: usize, counts: &mut [u64]) {
 
 // All cases, behind which nothing more may stand.
 pub fn run(fd: i32, counts: &mut [u64]) {
-    let mut bytes = input::number_room();
-    let mut more = input::number_room();
+    let mut bytes = number_room();
+    let mut more = number_room();
     if !read_exact(fd, &mut bytes) {
         tally::add_different(counts, false);
         return;

@@ -1,6 +1,7 @@
 // The cells against the named ones of the record: 9 bytes each, the index and the 5 bytes of the cell.
 ghost use Prim.Native.Nat.{_≤_};
 use crate::tally;
+use recorded::tally::add;
 use tune::numbers::u32_at;
 
 // The most cells that are lent.
@@ -57,7 +58,7 @@ pub fn same_cells(cells: &[u8], named: &[u8], counts: &mut [u64]) -> bool {
         }
         cell += 1;
         if expected {
-            tally::add(counts, tally::NAMED, 1);
+            add(counts, tally::NAMED, 1);
             next += 1;
         }
     }

@@ -2,7 +2,6 @@
 ghost use mathlib.Core.Path.{_≡_};
 ghost use Prim.Native.Nat.{_<_};
 ghost use lib.ListN.{length};
-use crate::input::MARK;
 use s3m::ReadAnswer;
 use s3m::header::Measured;
 use tune::numbers::u32_at;
@@ -46,31 +45,6 @@ pub fn number_of(answer: ReadAnswer) -> u8 {
         ReadAnswer::Done => 0,
         ReadAnswer::Refused(number) => number,
     }
-}
-
-pub fn untouched(table: &[u8]) -> bool {
-    let mut i: usize = 0;
-    while i < table.len() {
-        if table[i] != MARK {
-            return false;
-        }
-        i += 1;
-    }
-    true
-}
-
-pub fn same_bytes(a: &[u8], b: &[u8]) -> bool {
-    if a.len() != b.len() {
-        return false;
-    }
-    let mut i: usize = 0;
-    while i < a.len() {
-        if a[i] != b[i] {
-            return false;
-        }
-        i += 1;
-    }
-    true
 }
 
 fn flag(on: bool) -> u8 {

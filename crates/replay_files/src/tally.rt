@@ -1,7 +1,9 @@
 // Counters: Measure's numbers from 0, Read's from 8, then those named here.
 ghost use mathlib.Core.Path.{_≡_};
 ghost use lib.ListN.{length};
-use libc::STDOUT_FILENO;
+use recorded::tally::add;
+use recorded::tally::print_count;
+use recorded::tally::print_numbered;
 
 pub const MEASURE: usize = 0;
 
@@ -19,13 +21,6 @@ pub fn counters() -> [u64; 20]
     [0; 20]
 }
 
-pub fn add(counts: &mut [u64], counter: usize, n: u64) {
-    if counter < counts.len() {
-        let before = counts[counter];
-        counts[counter] = std::num::wrapping_add_u64(before, n);
-    }
-}
-
 pub fn add_different(counts: &mut [u64], same: bool) {
     if same {
         return;
@@ -33,24 +28,10 @@ pub fn add_different(counts: &mut [u64], same: bool) {
     add(counts, DIFFERENT, 1);
 }
 
-fn print_count(name: &[u8], counts: &[u64], counter: usize) {
-    if counter < counts.len() {
-        io::write_all(STDOUT_FILENO, name);
-        io::print_decimal(STDOUT_FILENO, counts[counter]);
-        io::write_all(STDOUT_FILENO, b"\n");
-    }
-}
-
-fn print_number(name: &[u8], counts: &[u64], counter: usize, number: u64) {
-    io::write_all(STDOUT_FILENO, name);
-    io::print_decimal(STDOUT_FILENO, number);
-    print_count(b": ", counts, counter);
-}
-
 fn print_measures(counts: &[u64]) {
     let mut number: usize = 0;
     while number < 6 {
-        print_number(b"measure ", counts, MEASURE + number, number as u64);
+        print_numbered(b"measure ", counts, MEASURE + number, number as u64);
         number += 1;
     }
 }
@@ -58,7 +39,7 @@ fn print_measures(counts: &[u64]) {
 fn print_reads(counts: &[u64]) {
     let mut number: usize = 0;
     while number < 9 {
-        print_number(b"read ", counts, READ + number, number as u64);
+        print_numbered(b"read ", counts, READ + number, number as u64);
         number += 1;
     }
 }

@@ -1,5 +1,6 @@
 // Section called once for all rows, or again and again for a few.
 use crate::counters;
+use crate::counters::differs;
 use recorded::tally::add;
 use section::state::Sectioned;
 use section::state::State;
@@ -31,6 +32,17 @@ struct Asked {
     answer: Sectioned,
 }
 
+// At every seam: fewer rows than asked for only where the tune has ended, and as the state says.
+fn compare_seam(r: Sectioned, n: u32, counts: &mut [u64]) {
+    add(counts, counters::SECTIONS, 1);
+    let whole = (r.rows == n) | r.ended;
+    differs(
+        counts,
+        counters::ANSWERS,
+        whole & (r.ended == r.state.path.ended),
+    );
+}
+
 // The first Section.
 fn begin(
     orders: &[u8],
@@ -41,11 +53,9 @@ fn begin(
     output: &mut [u8],
     counts: &mut [u64],
 ) -> Asked {
-    add(counts, counters::SECTIONS, 1);
-    Asked {
-        rows: n,
-        answer: section(orders, cells, samples, s, n, output),
-    }
+    let r = section(orders, cells, samples, s, n, output);
+    compare_seam(r, n, counts);
+    Asked { rows: n, answer: r }
 }
 
 // The next Section, into the output behind the records that are there.
@@ -63,8 +73,8 @@ fn go_on(
     if output.len() < from {
         return before;
     }
-    add(counts, counters::SECTIONS, 1);
     let mut r = section(orders, cells, samples, state, n, &mut output[from..]);
+    compare_seam(r, n, counts);
     r.rows = std::num::wrapping_add_u32(before.answer.rows, r.rows);
     r.refusal = first_of(before.answer.refusal, r.refusal);
     Asked {

@@ -13,14 +13,14 @@ abbrev μ-loop : tie.MeasureT-loop
 loop-holds : tie.Need-loop-holds Inv-loop μ-loop
 loop-holds c = search needs
 
-slice-aggregate-print-number : tie.Need-slice-aggregate-print-number Inv-loop μ-loop
-slice-aggregate-print-number c = search needs
+slice-aggregate-print-numbered : tie.Need-slice-aggregate-print-numbered Inv-loop μ-loop
+slice-aggregate-print-numbered c = search needs
 
-add-print-number : tie.Need-add-print-number Inv-loop μ-loop
-add-print-number c = search needs
+add-print-numbered : tie.Need-add-print-numbered Inv-loop μ-loop
+add-print-numbered c = search needs
 
-print-number-requires : tie.Need-print-number-requires Inv-loop μ-loop
-print-number-requires c κs = search needs
+print-numbered-requires : tie.Need-print-numbered-requires Inv-loop μ-loop
+print-numbered-requires c κs = search needs
 
 add-number : tie.Need-add-number Inv-loop μ-loop
 add-number c = search needs
@@ -41,9 +41,9 @@ print-measures-spec =
     Inv-loop
     μ-loop
     loop-holds
-    slice-aggregate-print-number
-    add-print-number
-    print-number-requires
+    slice-aggregate-print-numbered
+    add-print-numbered
+    print-numbered-requires
     add-number
     loop-less
     loop-again

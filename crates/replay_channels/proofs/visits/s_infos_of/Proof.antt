@@ -1,28 +1,28 @@
--- `replay::path::s_infos_of` meets its contract. Assumes nothing.
+-- `replay_channels::visits::s_infos_of` meets its contract. Assumes nothing.
 use borrow.Author.Needs.{needs}
 use Prim.Native.Nat.{_≤_, _-_}
 use mathlib.Core.Path.{_≡_}
 use lib.ListN.{length}
-use Rattle.replay.proofs.path.s_infos_of.Statement.{statement}
-use Rattle.replay.proofs.path.s_infos_of.Tie as tie
+use Rattle.replay_channels.proofs.visits.s_infos_of.Statement.{statement}
+use Rattle.replay_channels.proofs.visits.s_infos_of.Tie as tie
 
 abbrev Inv-loop : tie.InvT-loop
-Inv-loop state infos₀ channel₀ infos channel = (channel ≤ 32) × (length infos ≡ 32)
+Inv-loop marks infos₀ i₀ infos i = (i ≤ 32) × (length infos ≡ 32)
 
 abbrev μ-loop : tie.MeasureT-loop
-μ-loop state infos₀ channel₀ infos channel = 32 - channel
+μ-loop marks infos₀ i₀ infos i = 32 - i
 
 loop-holds : tie.Need-loop-holds Inv-loop μ-loop
 loop-holds c = search needs
 
-s-info-at-requires : tie.Need-s-info-at-requires Inv-loop μ-loop
-s-info-at-requires c κs = search needs
+shared-slice-read-infos : tie.Need-shared-slice-read-infos Inv-loop μ-loop
+shared-slice-read-infos c = search needs
 
 array-write-infos : tie.Need-array-write-infos Inv-loop μ-loop
 array-write-infos c = search needs
 
-add-channel : tie.Need-add-channel Inv-loop μ-loop
-add-channel c = search needs
+add-i : tie.Need-add-i Inv-loop μ-loop
+add-i c = search needs
 
 loop-less : tie.Need-loop-less Inv-loop μ-loop
 loop-less c = search needs
@@ -40,9 +40,9 @@ s-infos-of-spec =
     Inv-loop
     μ-loop
     loop-holds
-    s-info-at-requires
+    shared-slice-read-infos
     array-write-infos
-    add-channel
+    add-i
     loop-less
     loop-again
     returns)
