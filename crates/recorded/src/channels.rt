@@ -1,6 +1,6 @@
 // The channels of a recorded state, 72 bytes each.
 ghost use mathlib.Core.Path.{_≡_};
-ghost use Prim.Native.Nat.{_+_, _<_, _≤_};
+ghost use Prim.Native.Nat.{_<_};
 ghost use lib.ListN.{length};
 use crate::floats::double_at;
 use crate::floats::is_double;

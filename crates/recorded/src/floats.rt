@@ -1,6 +1,5 @@
 // Floats by their bits. Neither way is defined for a NaN: a NaN's pattern is read as the NaN that 0 / 0 gives, and any
 // two NaNs are the same.
-ghost use mathlib.Core.Path.{_≡_};
 ghost use Prim.Native.Nat.{_+_, _%_, _≤_};
 ghost use lib.ListN.{length};
 use tune::numbers::u32_at;

@@ -1,5 +1,5 @@
 // The path's part of a recorded state: by value, and whether the port's is the same.
-ghost use Prim.Native.Nat.{_+_, _≤_, _<_};
+ghost use Prim.Native.Nat.{_≤_, _<_};
 ghost use lib.ListN.{length};
 use crate::floats::u64_at;
 use row_path::loops::PatternLoop;

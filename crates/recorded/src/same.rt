@@ -1,6 +1,5 @@
 // Whether a channel of the port is the recorded one, field by field.
 ghost use mathlib.Core.Path.{_≡_};
-ghost use Prim.Native.Nat.{_+_, _≤_};
 ghost use lib.ListN.{length};
 use crate::floats::same_double;
 use crate::floats::same_single;

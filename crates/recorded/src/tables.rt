@@ -1,6 +1,6 @@
 // A recorded tune: its head, its opening values and its tables.
 ghost use mathlib.Core.Path.{_≡_};
-ghost use Prim.Native.Nat.{_+_, _*_, _≤_, _<_};
+ghost use Prim.Native.Nat.{_<_};
 ghost use lib.ListN.{length};
 use crate::input::read_first;
 use tune::numbers::u16_at;

@@ -1,5 +1,5 @@
 // The path machine against the recorded states and records (oracle/README.md has their layout).
-ghost use Prim.Native.Nat.{_+_, _≤_, _<_};
+ghost use Prim.Native.Nat.{_≤_};
 ghost use lib.ListN.{length};
 use crate::tally;
 use recorded::floats::u64_at;

@@ -1,6 +1,5 @@
 // A recorded tune: its tables, then its visits or the rows of its walk.
 ghost use mathlib.Core.Path.{_≡_};
-ghost use Prim.Native.Nat.{_+_, _*_, _≤_, _<_};
 ghost use lib.ListN.{length};
 use crate::path::HEAD;
 use crate::path::RECORD;

@@ -1,6 +1,4 @@
 // The tunes, one by one: the samples of each, then its visits.
-ghost use mathlib.Core.Path.{_≡_};
-ghost use lib.ListN.{length};
 use crate::tally;
 use crate::visits::read_visits;
 use recorded::input;

@@ -1,7 +1,6 @@
 // A visit: the row's cells, its marks, the channels before and after. The marks are the 32 S infos, the global volume,
 // Amiga limits, fast slides, the global volume that the leave sets, and the strike mask.
 ghost use mathlib.Core.Path.{_≡_};
-ghost use Prim.Native.Nat.{_+_, _≤_};
 ghost use lib.ListN.{length};
 use crate::tally;
 use channel::channels::Rowed;

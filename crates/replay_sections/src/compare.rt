@@ -1,6 +1,5 @@
 // What Section wrote and answered against what was recorded.
 ghost use mathlib.Core.Path.{_≡_};
-ghost use Prim.Native.Nat.{_≤_};
 ghost use lib.ListN.{length};
 use crate::counters;
 use crate::counters::differs;
