@@ -1,5 +1,5 @@
 //! Reads the original sources, makes the patched copies in OUT_DIR, and writes the
-//! module list that src/main.rs includes.
+//! module list that src/lib.rs includes.
 
 #[path = "src/patch.rs"]
 mod patch;

@@ -1,49 +1,9 @@
-//! Runs the original row processor of oxideav-s3m as the judge of the port.
+//! The commands of the oracle.
 
-mod archive;
-mod channels;
-mod cover;
-mod example;
-mod files;
-mod generate;
-mod met;
-mod pipe;
-mod pitch;
-mod powf;
-mod random;
-mod reader;
-mod readers;
-mod record;
-mod replay;
-mod sections;
-mod sheet;
-mod sheets;
-mod show;
-mod state;
-mod tally;
-mod tune;
-mod walk;
-mod writer;
-
-#[path = "standins/factors.rs"]
-mod factors;
-#[path = "standins/oxideav_core.rs"]
-mod oxideav_core;
-#[path = "standins/samples.rs"]
-mod samples;
-
-#[cfg(test)]
-mod patch;
-#[cfg(test)]
-mod path;
-#[cfg(test)]
-mod reader_tests;
-#[cfg(test)]
-mod tests;
-
-// The original's modules header, opl2, pattern and player, patched by build.rs.
-include!(concat!(env!("OUT_DIR"), "/original.rs"));
-
+use oracle::{
+    channels, cover, example, files, pitch, powf, readers, record, replay, sections, sheet, sheets,
+    show, tally,
+};
 use std::io::{self, Read, Write};
 use std::path::Path;
 use std::process::ExitCode;

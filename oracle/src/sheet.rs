@@ -42,7 +42,7 @@ fn print(tune: &Tune) -> String {
     out
 }
 
-fn line(state: &State) -> String {
+pub fn line(state: &State) -> String {
     let entered = state.entered.expect("a row was entered");
     line_of([
         state.order_index.into(),

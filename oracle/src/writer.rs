@@ -30,6 +30,7 @@ fn header(tune: &Tune) -> Vec<u8> {
         out[at..at + 2].copy_from_slice(&(count as u16).to_le_bytes());
     }
     out[38] = 16 * u8::from(opening.amiga_limits) + 64 * u8::from(opening.fast_slides);
+    out[28..30].copy_from_slice(&[0x1A, 0x10]);
     out[40..44].copy_from_slice(&[0x20, 0x13, 2, 0]);
     out[44..48].copy_from_slice(b"SCRM");
     out[48..51].copy_from_slice(&[opening.global_volume, opening.speed, opening.tempo]);

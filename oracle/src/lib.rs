@@ -1,0 +1,45 @@
+//! Runs the original row processor of oxideav-s3m as the judge of the port.
+
+pub mod archive;
+pub mod channels;
+pub mod cover;
+pub mod example;
+pub mod files;
+pub mod generate;
+pub mod met;
+pub mod pipe;
+pub mod pitch;
+pub mod powf;
+pub mod random;
+pub mod reader;
+pub mod readers;
+pub mod record;
+pub mod replay;
+pub mod sections;
+pub mod sheet;
+pub mod sheets;
+pub mod show;
+pub mod state;
+pub mod tally;
+pub mod tune;
+pub mod walk;
+pub mod writer;
+
+#[path = "standins/factors.rs"]
+pub mod factors;
+#[path = "standins/oxideav_core.rs"]
+pub mod oxideav_core;
+#[path = "standins/samples.rs"]
+pub mod samples;
+
+#[cfg(test)]
+mod patch;
+#[cfg(test)]
+mod path;
+#[cfg(test)]
+mod reader_tests;
+#[cfg(test)]
+mod tests;
+
+// The original's modules header, opl2, pattern and player, patched by build.rs.
+include!(concat!(env!("OUT_DIR"), "/original.rs"));
