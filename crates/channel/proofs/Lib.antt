@@ -3,6 +3,7 @@ pub mod Volumes
 pub mod Own
 pub mod Held
 pub mod Armed
+pub mod Delivered
 pub mod Numbered
 pub mod Resting
 pub mod Visits

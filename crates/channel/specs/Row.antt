@@ -23,6 +23,10 @@ putsOff k info = eqb k 19 && eqb (info / 16) 0xD && not (eqb (info % 16) 0)
 unfoldable pub putOff : Cell → ℕ → TriggerOption
 putOff l info = Some (record { «fire_tick» = info % 16; note = l .note; instrument = l .instrument; volume = l .volume })
 
+-- the channel with the cell put off, where SDx asks for it
+unfoldable pub heldBack : Channel → Cell → Channel
+heldBack c l = pick (putsOff (l .command) (c .info)) (withDelay c (putOff l (c .info))) c
+
 -- the cell with the info in force
 abbrev pub withInfo : Cell → ℕ → Cell
 withInfo l info = record { note = l .note; instrument = l .instrument; volume = l .volume; command = l .command; info = info }

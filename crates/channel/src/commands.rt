@@ -1,6 +1,8 @@
 // Commands that act at a row's start.
 ghost use mathlib.Core.Path.{_≡_};
 ghost use Prim.Native.Nat.{_<_};
+ghost use Rattle.pitch.specs.Slides.{factorNumber, slid};
+ghost use Rattle.pitch.specs.Limits.{limited};
 ghost use Rattle.channel.specs.Commands.{fineSlid, finetuned, waveformOf, keepsPosition, extendedBy, commanded};
 use crate::levels::set_pan;
 use crate::levels::slide_volume;
@@ -13,6 +15,13 @@ use pitch::frequency::note_to_frequency;
 use pitch::limits::clamp_amiga;
 use pitch::slides::fine_slide;
 
+// A frequency slid finely, within the Amiga limits.
+fn slide_frequency(f: f32, up: bool, info: u8, amiga: bool) -> f32
+    ensures { λ r. ⌜ r ≡ limited amiga (slid f (factorNumber up info)) ⌝ }
+{
+    clamp_amiga(fine_slide(f, up, info), amiga)
+}
+
 fn slide_finely(c: Channel, up: bool, amiga: bool) -> Channel
     ensures { λ r. ⌜ r ≡ fineSlid c up amiga ⌝ }
 {
@@ -20,8 +29,8 @@ fn slide_finely(c: Channel, up: bool, amiga: bool) -> Channel
     if c.info < 0xE0 {
         return d;
     }
-    d.frequency = clamp_amiga(fine_slide(c.frequency, up, c.info), amiga);
-    d.target_frequency = clamp_amiga(fine_slide(c.target_frequency, up, c.info), amiga);
+    d.frequency = slide_frequency(c.frequency, up, c.info, amiga);
+    d.target_frequency = slide_frequency(c.target_frequency, up, c.info, amiga);
     d
 }
 

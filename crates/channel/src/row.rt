@@ -3,7 +3,7 @@ ghost use mathlib.Core.Path.{_≡_};
 ghost use Prim.Native.Nat.{_+_, _<_, _≤_, _^_};
 ghost use lib.ListN.{length};
 ghost use Rattle.laws.specs.Masks.{bitAt};
-ghost use Rattle.channel.specs.Row.{putsOff, putOff, withInfo, delivered, relatched, channelEntered};
+ghost use Rattle.channel.specs.Row.{putsOff, putOff, heldBack, withInfo, delivered, relatched, channelEntered};
 use crate::commands::act;
 use crate::memory::begin;
 use crate::play::play_cell;
@@ -43,22 +43,29 @@ fn with_info(cell: Cell, info: u8) -> Cell
     }
 }
 
+// The channel with the cell put off, where SDx asks for it.
+fn hold_back(c: Channel, cell: Cell) -> Channel
+    ensures { λ r. ⌜ r ≡ heldBack c cell ⌝ }
+{
+    if is_note_delay(cell.command, c.info) {
+        return c.with_delay(put_off(cell, c.info));
+    }
+    c
+}
+
 // The cell is played, put off, or both.
 fn deliver(c: Channel, cell: Cell, samples: &[u8], amiga: bool, global: u8) -> Played
     ensures { λ r. ⌜ r ≡ delivered c cell (now (samples .entry)) amiga global ⌝ }
 {
     let in_force = with_info(cell, c.info);
-    if is_note_delay(cell.command, c.info) {
-        let channel = c.with_delay(put_off(cell, c.info));
-        if cell.info == 0 {
-            return play_cell(channel, in_force, samples, amiga, global);
-        }
+    let channel = hold_back(c, cell);
+    if is_note_delay(cell.command, c.info) & (cell.info != 0) {
         return Played {
             channel,
             struck: false,
         };
     }
-    play_cell(c, in_force, samples, amiga, global)
+    play_cell(channel, in_force, samples, amiga, global)
 }
 
 // The voice latches the global volume if the volume is not the one before the row.

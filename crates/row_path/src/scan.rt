@@ -5,6 +5,7 @@ ghost use lib.ListN.{length};
 ghost use lib.Dec.{eqb, ltb};
 ghost use Rattle.laws.specs.Choice.{pick};
 ghost use Rattle.row_path.specs.Scan.{scanSpeed, scanTempo, scanOrder, scanRow, scanLoop, scanDelay, breakRow, special, specialAt, heard, scanned, firstScan};
+ghost use Rattle.row_path.specs.Steering.{steers};
 use crate::option::ByteOption;
 use tune::cells::cell_of;
 use tune::numbers::high_nibble;
@@ -234,7 +235,14 @@ fn hear(a: Scan, i: usize, c: u8, x: u8) -> Scan
     a
 }
 
-// The 32 channels of a row in turn.
+// Whether the path reads a command at all.
+fn is_steering(c: u8) -> bool
+    ensures { λ r. ⌜ r ≡ steers c ⌝ }
+{
+    (c == 1) | (c == 20) | (c == 2) | (c == 3) | (c == 19)
+}
+
+// The 32 channels of a row in turn. A cell that does not steer is passed over, so that the scan is not copied for it.
 pub fn scan_row(row: &[u8], infos: [u8; 32]) -> Scan
     requires { ⌜ length (now row) ≡ 160 ⌝ }
     ensures { λ r. ⌜ r ≡ scanned (now (row .entry)) 32 (firstScan infos) ⌝ }
@@ -243,8 +251,12 @@ pub fn scan_row(row: &[u8], infos: [u8; 32]) -> Scan
     let mut i: usize = 0;
     while i < 32 {
         let cell = cell_of(row, i);
-        a = hear(a, i, cell.command, cell.info);
-        i += 1;
+        if is_steering(cell.command) {
+            a = hear(a, i, cell.command, cell.info);
+            i += 1;
+        } else {
+            i += 1;
+        }
     }
     a
 }
