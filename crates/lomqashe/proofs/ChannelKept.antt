@@ -1,0 +1,89 @@
+-- A channel that is written and read is the same. Assumes nothing.
+use Prim.Native.Nat.{ℕ, _≤_}
+use mathlib.Core.Path.{_≡_, refl, sym, ap, _∙_}
+use mathlib.Core.Bool.{Bool, true, false}
+use mathlib.Core.List.{List, _∷_, _++_}
+use native.Mathlib.Omega.{arith}
+use lib.Dec.{eqb}
+use lib.Ieee.{Float, binary32, binary64, ofBits, toBits}
+use lib.Ieee.Bits.{ofBits-toBits, toBits-lt}
+use lib.ListN.{length, getD}
+use lib.Seq.{take-all}
+use Rattle.laws.specs.Choice.{pick}
+use Rattle.channel.specs.declared.state.Channel.{Channel}
+use Rattle.channel.specs.declared.state.TriggerOption.{TriggerOption}
+use Rattle.channel.specs.declared.state.TriggerOption.the-variants.{None, Some}
+use Rattle.channel.specs.declared.state.Waveform.{Waveform}
+use Rattle.channel.specs.declared.state.Waveform.the-variants.{Sine, RampDown, Square, Random}
+use Rattle.section.specs.Records.{bytesOf, flag}
+use Rattle.lomqashe.specs.Bytes.{isSet}
+use Rattle.lomqashe.specs.Channels.{waveformByte, waveformOf, delayBytes, floatBytes, fieldBytes, channelBytes, channelOf}
+use Rattle.lomqashe.specs.Typed.{TypedChannel}
+use Rattle.lomqashe.proofs.Delays.{delay-listed}
+use Rattle.lomqashe.proofs.Little.{four-back, eight-back}
+use Rattle.lomqashe.proofs.ChannelRead.{channel-read}
+
+pub flag-kept : (b : Bool) → b ≡ isSet (flag b)
+flag-kept true = refl
+flag-kept false = refl
+
+waveform-kept : (w : Waveform) → w ≡ waveformOf (waveformByte w)
+waveform-kept Sine = refl
+waveform-kept RampDown = refl
+waveform-kept Square = refl
+waveform-kept Random = refl
+
+delay-kept : (t : TriggerOption) → t ≡ pick (eqb (getD (delayBytes t) 0 0) 0) None (Some (record { «fire_tick» = getD (delayBytes t) 1 0; note = getD (delayBytes t) 2 0; instrument = getD (delayBytes t) 3 0; volume = getD (delayBytes t) 4 0 }))
+delay-kept None = refl
+delay-kept (Some t) = refl
+
+-- a channel's bytes one by one, before its memory
+abbrev listed : Channel → List ℕ → List ℕ
+listed c d =
+    bytesOf 4 (toBits binary32 (c .frequency))
+    ++ (bytesOf 4 (toBits binary32 (c .«target_frequency»)) ++ bytesOf 8 (toBits binary64 (c .«sample_pos»)))
+    ++ (c .instrument ∷ c .volume ∷ c .pan ∷ flag (c .active) ∷ c .command ∷ c .info ∷ c .«vibrato_pos» ∷ c .«tremolo_pos» ∷ c .«last_note»
+    ∷ getD d 0 0 ∷ getD d 1 0 ∷ getD d 2 0 ∷ getD d 3 0 ∷ getD d 4 0
+    ∷ flag (c .glissando) ∷ waveformByte (c .«vibrato_waveform») ∷ waveformByte (c .«tremolo_waveform»)
+    ∷ c .«retrig_counter» ∷ c .«tremor_on_counter» ∷ c .«tremor_off_counter» ∷ c .«stored_volume»
+    ∷ flag (c .«keep_vibrato_pos_on_new_note») ∷ flag (c .«keep_tremolo_pos_on_new_note»)
+    ∷ flag (c .muted) ∷ flag (c .frozen) ∷ flag (c .«right_bank») ∷ flag (c .adlib)
+    ∷ c .«opl_voice» ∷ c .«voice_global_vol» ∷ 0 ∷ 0 ∷ 0 ∷ c .«effect_memory»)
+
+channel-listed : (c : Channel) → channelBytes c ≡ listed c (delayBytes (c .«pending_delay»))
+unfolding channelBytes floatBytes fieldBytes bytesOf
+channel-listed c = rw (delay-listed (c .«pending_delay») (delayBytes (c .«pending_delay»)) refl)
+
+single-kept : (x : Float) (n : ℕ) → toBits binary32 x ≡ n → ofBits binary32 (toBits binary32 x) ≡ x → x ≡ ofBits binary32 n
+single-kept x n e h = sym h ∙ ap (ofBits binary32) e
+
+double-kept : (x : Float) (n : ℕ) → toBits binary64 x ≡ n → ofBits binary64 (toBits binary64 x) ≡ x → x ≡ ofBits binary64 n
+double-kept x n e h = sym h ∙ ap (ofBits binary64) e
+
+pub channel-kept : (c : Channel) → TypedChannel c → channelOf (channelBytes c) ≡ c
+unfolding bytesOf
+channel-kept c h =
+    let d = delayBytes (c .«pending_delay») in
+    let s = listed c d in
+    let m : length (c .«effect_memory») ≤ 32 = omega (arith, h .memory) in
+    ap channelOf (channel-listed c)
+    ∙ sym (channel-read s
+    (single-kept (c .frequency) _ (four-back s 0 (toBits binary32 (c .frequency)) (toBits-lt binary32 (c .frequency) (h .frequency)) refl refl refl refl) (ofBits-toBits binary32 (c .frequency) (h .frequency)))
+    (single-kept (c .«target_frequency») _ (four-back s 4 (toBits binary32 (c .«target_frequency»)) (toBits-lt binary32 (c .«target_frequency») (h .target)) refl refl refl refl) (ofBits-toBits binary32 (c .«target_frequency») (h .target)))
+    (double-kept (c .«sample_pos») _ (eight-back s 8 (toBits binary64 (c .«sample_pos»)) (toBits-lt binary64 (c .«sample_pos») (h .position)) refl refl refl refl refl refl refl refl) (ofBits-toBits binary64 (c .«sample_pos») (h .position)))
+    (delay-kept (c .«pending_delay»))
+    (waveform-kept (c .«vibrato_waveform»))
+    (waveform-kept (c .«tremolo_waveform»))
+    (sym (take-all 32 (c .«effect_memory») m))
+    (flag-kept (c .active))
+    (flag-kept (c .glissando))
+    (flag-kept (c .«keep_vibrato_pos_on_new_note»))
+    (flag-kept (c .«keep_tremolo_pos_on_new_note»))
+    (flag-kept (c .muted))
+    (flag-kept (c .frozen))
+    (flag-kept (c .«right_bank»))
+    (flag-kept (c .adlib)))
+
+pub channel-size : (c : Channel) → TypedChannel c → length (channelBytes c) ≡ 80
+unfolding bytesOf
+channel-size c h = ap length (channel-listed c) ∙ rw (h .memory)

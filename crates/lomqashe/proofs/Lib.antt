@@ -1,0 +1,12 @@
+pub mod Answered
+pub mod ChannelKept
+pub mod ChannelRead
+pub mod Delays
+pub mod Lengths
+pub mod Little
+pub mod Nans
+pub mod OpeningKept
+pub mod Reread
+pub mod Rows
+pub mod StateKept
+pub mod Turns

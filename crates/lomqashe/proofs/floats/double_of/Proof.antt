@@ -1,0 +1,20 @@
+-- `lomqashe::floats::double_of` meets its contract. Assumes nothing.
+use lib.Ieee.{div, ofBits, ofFields, odd}
+use native.Mathlib.Omega.{arith}
+use borrow.Author.Needs.{needs}
+use Rattle.lomqashe.proofs.Nans.{double-no-nan, double-nan}
+use Rattle.lomqashe.proofs.floats.double_of.Statement.{statement}
+use Rattle.lomqashe.proofs.floats.double_of.Tie as tie
+
+float-from-bits-result : tie.Need-float-from-bits-result
+float-from-bits-result c = double-no-nan (c .before .args .bits) (c .if1 .taken)
+
+returns : tie.Need-returns
+returns c = search needs
+
+returns-2 : tie.Need-returns-2
+unfolding div ofBits ofFields odd
+returns-2 c = double-nan (c .before .args .bits) (omega (arith, c .if1 .left))
+
+pub double-of-spec : {M : Type 1} → statement M
+double-of-spec = tie.close (tie.spec float-from-bits-result returns returns-2)

@@ -1,0 +1,55 @@
+-- `lomqashe::lomqashe_open` meets its contract. Assumes nothing.
+use denote.Ref.{now}
+use mathlib.Core.Path.{_∙_}
+use borrow.Author.Needs.{needs}
+use Rattle.section.specs.Tables.{lent}
+use Rattle.lomqashe.proofs.Answered.{open-wrong, no-opening, no-state, open-refused, open-given}
+use Rattle.lomqashe.proofs.lomqashe_open.Statement.{statement}
+use Rattle.lomqashe.proofs.lomqashe_open.Tie as tie
+
+returns : tie.Need-returns
+returns c = let a = c .before .before .before .before .before .before .args in open-wrong (lent (now (a .orders)) (now (a .cells)) (now (a .samples))) (now (a .opening)) (now (a .state)) (no-opening (lent (now (a .orders)) (now (a .cells)) (now (a .samples))) (now (a .opening)) (now (a .state)) (c .if1 .taken))
+
+returns-2 : tie.Need-returns-2
+returns-2 c = let a = c .before .before .before .before .before .before .before .args in open-wrong (lent (now (a .orders)) (now (a .cells)) (now (a .samples))) (now (a .opening)) (now (a .state)) (no-state (lent (now (a .orders)) (now (a .cells)) (now (a .samples))) (now (a .opening)) (now (a .state)) (c .before .if1 .left) (c .if2 .taken))
+
+opening-of-requires : tie.Need-opening-of-requires
+opening-of-requires c κs = search needs
+
+open-requires : tie.Need-open-requires
+open-requires c κs = search needs
+
+refused-requires : tie.Need-refused-requires
+refused-requires c κs = search needs
+
+returns-3 : tie.Need-returns-3
+returns-3 c =
+    let a = c .before .before .before .before .before .before .before .before .before .before .before .before .args in
+    let g = open-refused (lent (now (a .orders)) (now (a .cells)) (now (a .samples))) (now (a .opening)) (now (a .state)) (c .before .before .before .before .before .before .if1 .left) (c .before .before .before .before .before .if2 .left) (c .before .before .before .before .opening-of .result) (c .before .before .before .«open» .result) (c .before .before .before .before .opening-of .ensures) (c .before .before .before .«open» .ensures .0) (c .before .if3 .taken) in
+    (c .refused .ensures ∙ g .0, g .1)
+
+put-state-requires : tie.Need-put-state-requires
+put-state-requires c κs = search needs
+
+same-length : tie.Need-same-length
+same-length c = search needs
+
+returns-4 : tie.Need-returns-4
+returns-4 c =
+    let a = c .before .before .before .before .before .before .before .before .before .before .before .before .before .before .before .before .args in
+    let g = open-given (lent (now (a .orders)) (now (a .cells)) (now (a .samples))) (now (a .opening)) (now (a .state)) (c .before .before .before .before .before .before .before .before .before .before .if1 .left) (c .before .before .before .before .before .before .before .before .before .if2 .left) (c .before .before .before .before .before .before .before .before .opening-of .result) (c .before .before .before .before .before .before .before .«open» .result) (c .before .before .before .before .before .before .before .before .opening-of .ensures) (c .before .before .before .before .before .before .before .«open» .ensures .0) (c .before .before .before .before .before .if3 .left) in
+    (g .0, c .before .before .put-state .ensures ∙ g .1)
+
+pub lomqashe-open-spec : {M : Type 1} → statement M
+lomqashe-open-spec =
+    tie.close
+    (tie.spec
+    returns
+    returns-2
+    opening-of-requires
+    open-requires
+    refused-requires
+    returns-3
+    put-state-requires
+    same-length
+    returns-4)

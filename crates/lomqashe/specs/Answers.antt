@@ -1,0 +1,106 @@
+-- What the six calls answer, and what they leave in the lent bytes. Assumes nothing.
+use Prim.Native.Nat.{ℕ, _+_, _*_, _^_}
+use mathlib.Core.Path.{_≡_}
+use mathlib.Core.List.{List, _++_}
+use lib.Dec.{eqb}
+use lib.ListN.{length}
+use Rattle.laws.specs.Choice.{pick}
+use Rattle.s3m.specs.Layout.{countsOf}
+use Rattle.s3m.specs.Opening.{openingOf}
+use Rattle.s3m.specs.Refusals.{measureRule}
+use Rattle.s3m.specs.Answers.{refusalOf}
+use Rattle.s3m.specs.declared.header.Counts.{Counts}
+use Rattle.s3m.specs.declared.ReadAnswer.{ReadAnswer}
+use Rattle.tune.specs.declared.opening.Opening.{Opening}
+use Rattle.section.specs.Tables.{Tables}
+use Rattle.section.specs.Records.{bytesOf, flag}
+use Rattle.section.specs.Open.{freshState, openRule}
+use Rattle.section.specs.Section.{sectionOf, sectioned, outputAfter}
+use Rattle.section.specs.declared.state.Sectioned.{Sectioned}
+use Rattle.sheet.specs.Listing.{StrikesGive}
+use Rattle.sheet.specs.declared.answer.Answer.{Answer}
+use Rattle.sheet.specs.declared.answer.Answer.the-variants.{Done, Refused}
+use Rattle.s3m.specs.declared.ReadAnswer.the-variants as Read
+use Rattle.lomqashe.specs.Openings.{openingSize, openingBytes, openingAt}
+use Rattle.lomqashe.specs.States.{stateSize, stateBytes, stateOf}
+
+-- bits 24 to 31 the refusal, 0 where there is none; bits 0 to 23 what the call gives
+abbrev pub answerOf : ℕ → ℕ → ℕ
+answerOf refusal given = refusal * 2 ^ 24 + given
+
+-- the refusal where a length at this border is wrong; it is asked before every rule
+abbrev pub wrong : ℕ
+wrong = 255
+
+-- Measure's counts, 12 bytes: orders, instruments, patterns, 32 bits each
+abbrev pub countsSize : ℕ
+countsSize = 12
+
+unfoldable pub countBytes : Counts → List ℕ
+countBytes c = bytesOf 4 (c .orders) ++ (bytesOf 4 (c .instruments) ++ bytesOf 4 (c .patterns))
+
+unfoldable pub measureRefusal : List ℕ → List ℕ → ℕ
+measureRefusal file counts = pick (eqb (length counts) countsSize) (measureRule file) wrong
+
+-- the lent counts behind it
+unfoldable pub countsAfter : List ℕ → ℕ → List ℕ → List ℕ
+countsAfter file refusal counts = pick (eqb refusal 0) (countBytes (countsOf file)) counts
+
+-- Read
+unfoldable pub readRefusal : List ℕ → List ℕ → List ℕ → List ℕ → List ℕ → ℕ
+readRefusal file orders samples cells opening = pick (eqb (length opening) openingSize) (refusalOf file orders samples cells) wrong
+
+-- the lent opening values behind it, by what Read answers
+abbrev pub openingBy : ReadAnswer → Opening → List ℕ → List ℕ
+openingBy Read.Done o opening = openingBytes o
+openingBy (Read.Refused x) o opening = opening
+
+-- and by the refusal; the tables are `ordersAfter`, `samplesAfter` and `cellsAfter` of that refusal
+unfoldable pub openingAfter : List ℕ → ℕ → ℕ → List ℕ → List ℕ
+openingAfter file rate refusal opening = pick (eqb refusal 0) (openingBytes (openingOf file rate)) opening
+
+-- Open
+unfoldable pub openRefusal : Tables → List ℕ → List ℕ → ℕ
+openRefusal t opening state =
+    pick (eqb (length opening) openingSize) (pick (eqb (length state) stateSize) (openRule t (openingAt opening)) wrong) wrong
+
+-- the lent state behind it
+unfoldable pub stateOpened : List ℕ → ℕ → List ℕ → List ℕ
+stateOpened opening refusal state = pick (eqb refusal 0) (stateBytes (freshState (openingAt opening))) state
+
+-- Section of the state that the bytes say
+unfoldable pub sectionBy : Tables → List ℕ → ℕ → List ℕ → Sectioned
+sectionBy t state n output = sectioned (sectionOf t (stateOf state) n (length output))
+
+-- rows in bits 0 to 15, whether the tune has ended in bit 16
+abbrev pub rowsAndEnded : Sectioned → ℕ
+rowsAndEnded g = g .rows + flag (g .ended) * 2 ^ 16
+
+unfoldable pub sectionAnswer : Tables → List ℕ → ℕ → List ℕ → ℕ
+sectionAnswer t state n output =
+    pick (eqb (length state) stateSize)
+    (answerOf (sectionBy t state n output .refusal) (rowsAndEnded (sectionBy t state n output)))
+    (answerOf wrong 0)
+
+-- the lent state behind it, unchanged where it refuses
+unfoldable pub stateAfter : Tables → List ℕ → ℕ → List ℕ → List ℕ
+stateAfter t state n output =
+    pick (eqb (length state) stateSize)
+    (pick (eqb (sectionBy t state n output .refusal) 0) (stateBytes (sectionBy t state n output .state)) state)
+    state
+
+-- the lent output behind it
+unfoldable pub recordsAfter : Tables → List ℕ → ℕ → List ℕ → List ℕ
+recordsAfter t state n output =
+    pick (eqb (length state) stateSize) (outputAfter output (sectionOf t (stateOf state) n (length output))) output
+
+-- an answer of Strikes or Line in one number
+abbrev pub recordAnswer : Answer → ℕ
+recordAnswer (Done n) = answerOf 0 n
+recordAnswer (Refused x) = answerOf x 0
+
+-- Strikes: the number is that of an answer which Strikes may give with these bytes before and after
+pub record StrikesNumber (row before after : List ℕ) (n : ℕ) : Type 0 where
+  pub answer : Answer
+  pub gives : StrikesGive row before after answer
+  pub number : n ≡ recordAnswer answer

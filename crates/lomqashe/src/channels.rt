@@ -1,0 +1,248 @@
+// The 80 bytes of a channel: 0 to 3 frequency, 4 to 7 target frequency, 8 to 15 sample position, by their bits; 16
+// instrument, 17 volume, 18 pan, 19 active, 20 command, 21 info, 22 vibrato position, 23 tremolo position, 24 last note,
+// 25 delay present, 26 to 29 its tick, note, instrument and volume, 30 glissando, 31 vibrato and 32 tremolo waveform, 33
+// retrig counter, 34 and 35 tremor on and off counters, 36 stored volume, 37 and 38 vibrato and tremolo kept over a new
+// note, 39 muted, 40 frozen, 41 right bank, 42 AdLib, 43 AdLib voice, 44 voice global volume, 45 to 47 spare, 48 to 79
+// effect memory.
+ghost use mathlib.Core.Path.{_≡_};
+ghost use Prim.Native.Nat.{_+_, _*_};
+ghost use lib.ListN.{length, take, drop};
+ghost use Rattle.laws.specs.Entries.{tabulate};
+ghost use Rattle.lomqashe.specs.Bytes.{inTurn};
+ghost use Rattle.lomqashe.specs.Channels.{waveformByte, waveformOf, delayBytes, delayAt, floatBytes, fieldBytes, channelBytes, channelOf};
+use crate::floats::double_bits;
+use crate::floats::double_of;
+use crate::floats::single_bits;
+use crate::floats::single_of;
+use crate::numbers::bytes_at;
+use crate::numbers::flag_of;
+use crate::numbers::is_set;
+use crate::numbers::put_both;
+use crate::numbers::u64_at;
+use channel::state::Channel;
+use channel::state::PendingTrigger;
+use channel::state::TriggerOption;
+use channel::state::Waveform;
+use tune::numbers::u32_at;
+use tune::parts::copy_whole;
+
+// 0 sine, 1 ramp down, 2 square, 3 random.
+fn waveform_byte(w: Waveform) -> u8
+    ensures { λ r. ⌜ r ≡ waveformByte w ⌝ }
+{
+    match w {
+        Waveform::Sine => 0,
+        Waveform::RampDown => 1,
+        Waveform::Square => 2,
+        Waveform::Random => 3,
+    }
+}
+
+// A waveform is read by the low two bits.
+fn waveform_of(b: u8) -> Waveform
+    ensures { λ r. ⌜ r ≡ waveformOf b ⌝ }
+{
+    match b % 4 {
+        0 => Waveform::Sine,
+        1 => Waveform::RampDown,
+        2 => Waveform::Square,
+        _ => Waveform::Random,
+    }
+}
+
+// Whether a cell is put off, and its tick, note, instrument and volume, 0 where none is.
+fn delay_bytes(d: TriggerOption) -> [u8; 5]
+    ensures { λ r. ⌜ r ≡ delayBytes d ⌝ }
+{
+    match d {
+        TriggerOption::None => [0, 0, 0, 0, 0],
+        TriggerOption::Some(t) => [1, t.fire_tick, t.note, t.instrument, t.volume],
+    }
+}
+
+fn delay_of(part: &[u8]) -> TriggerOption
+    requires { ⌜ length (now part) ≡ 80 ⌝ }
+    ensures { λ r. ⌜ r ≡ delayAt (now (part .entry)) 25 ⌝ }
+{
+    if part[25] == 0 {
+        return TriggerOption::None;
+    }
+    TriggerOption::Some(PendingTrigger {
+        fire_tick: part[26],
+        note: part[27],
+        instrument: part[28],
+        volume: part[29],
+    })
+}
+
+// Bytes 0 to 15.
+fn float_bytes(c: Channel) -> [u8; 16]
+    ensures { λ r. ⌜ r ≡ floatBytes c ⌝ }
+{
+    let f0 = single_bits(c.frequency);
+    let f1 = f0 / 256;
+    let f2 = f1 / 256;
+    let f3 = f2 / 256;
+    let t0 = single_bits(c.target_frequency);
+    let t1 = t0 / 256;
+    let t2 = t1 / 256;
+    let t3 = t2 / 256;
+    let s0 = double_bits(c.sample_pos);
+    let s1 = s0 / 256;
+    let s2 = s1 / 256;
+    let s3 = s2 / 256;
+    let s4 = s3 / 256;
+    let s5 = s4 / 256;
+    let s6 = s5 / 256;
+    let s7 = s6 / 256;
+    [
+        (f0 % 256) as u8,
+        (f1 % 256) as u8,
+        (f2 % 256) as u8,
+        (f3 % 256) as u8,
+        (t0 % 256) as u8,
+        (t1 % 256) as u8,
+        (t2 % 256) as u8,
+        (t3 % 256) as u8,
+        (s0 % 256) as u8,
+        (s1 % 256) as u8,
+        (s2 % 256) as u8,
+        (s3 % 256) as u8,
+        (s4 % 256) as u8,
+        (s5 % 256) as u8,
+        (s6 % 256) as u8,
+        (s7 % 256) as u8,
+    ]
+}
+
+// Bytes 16 to 47.
+fn field_bytes(c: Channel) -> [u8; 32]
+    ensures { λ r. ⌜ r ≡ fieldBytes c ⌝ }
+{
+    let delay = c.pending_delay;
+    let vibrato = c.vibrato_waveform;
+    let tremolo = c.tremolo_waveform;
+    let d = delay_bytes(delay);
+    [
+        c.instrument,
+        c.volume,
+        c.pan,
+        flag_of(c.active),
+        c.command,
+        c.info,
+        c.vibrato_pos,
+        c.tremolo_pos,
+        c.last_note,
+        d[0],
+        d[1],
+        d[2],
+        d[3],
+        d[4],
+        flag_of(c.glissando),
+        waveform_byte(vibrato),
+        waveform_byte(tremolo),
+        c.retrig_counter,
+        c.tremor_on_counter,
+        c.tremor_off_counter,
+        c.stored_volume,
+        flag_of(c.keep_vibrato_pos_on_new_note),
+        flag_of(c.keep_tremolo_pos_on_new_note),
+        flag_of(c.muted),
+        flag_of(c.frozen),
+        flag_of(c.right_bank),
+        flag_of(c.adlib),
+        c.opl_voice,
+        c.voice_global_vol,
+        0,
+        0,
+        0,
+    ]
+}
+
+fn put_floats(part: &mut [u8], c: Channel)
+    requires { ⌜ length (now part) ≡ 16 ⌝ }
+    ensures { λ _. ⌜ now (part .exit) ≡ floatBytes c ⌝ }
+{
+    let floats = float_bytes(c);
+    copy_whole(part, &floats);
+}
+
+fn put_channel(part: &mut [u8], c: Channel)
+    requires { ⌜ length (now part) ≡ 80 ⌝ }
+    ensures { λ _. ⌜ now (part .exit) ≡ channelBytes c ⌝ }
+{
+    let fields = field_bytes(c);
+    let memory = c.effect_memory;
+    put_floats(&mut part[0..16], c);
+    put_both(&mut part[16..80], fields, memory);
+}
+
+// 32 channels, one behind the other.
+pub fn put_channels(out: &mut [u8], channels: [Channel; 32])
+    requires { ⌜ length (now out) ≡ 2560 ⌝ }
+    ensures { λ _. ⌜ now (out .exit) ≡ inTurn channelBytes channels ⌝ }
+{
+    let mut i: usize = 0;
+    while i < 32 {
+        let c = channels[i];
+        let at = i * 80;
+        put_channel(&mut out[at..at + 80], c);
+        i += 1;
+    }
+}
+
+fn channel_of(part: &[u8]) -> Channel
+    requires { ⌜ length (now part) ≡ 80 ⌝ }
+    ensures { λ r. ⌜ r ≡ channelOf (now (part .entry)) ⌝ }
+{
+    let pending_delay = delay_of(part);
+    let vibrato_waveform = waveform_of(part[31]);
+    let tremolo_waveform = waveform_of(part[32]);
+    let effect_memory = bytes_at(part, 48);
+    Channel {
+        instrument: part[16],
+        frequency: single_of(u32_at(part, 0)),
+        sample_pos: double_of(u64_at(part, 8)),
+        volume: part[17],
+        pan: part[18],
+        active: is_set(part[19]),
+        target_frequency: single_of(u32_at(part, 4)),
+        command: part[20],
+        info: part[21],
+        vibrato_pos: part[22],
+        tremolo_pos: part[23],
+        last_note: part[24],
+        pending_delay,
+        glissando: is_set(part[30]),
+        vibrato_waveform,
+        tremolo_waveform,
+        retrig_counter: part[33],
+        tremor_on_counter: part[34],
+        tremor_off_counter: part[35],
+        stored_volume: part[36],
+        keep_vibrato_pos_on_new_note: is_set(part[37]),
+        keep_tremolo_pos_on_new_note: is_set(part[38]),
+        effect_memory,
+        muted: is_set(part[39]),
+        frozen: is_set(part[40]),
+        right_bank: is_set(part[41]),
+        adlib: is_set(part[42]),
+        opl_voice: part[43],
+        voice_global_vol: part[44],
+    }
+}
+
+// The 32 channels behind a state's head.
+pub fn channels_of(s: &[u8]) -> [Channel; 32]
+    requires { ⌜ length (now s) ≡ 2624 ⌝ }
+    ensures { λ r. ⌜ r ≡ tabulate 32 (λ i. channelOf (take 80 (drop (64 + i * 80) (now (s .entry))))) ⌝ }
+{
+    let mut channels = [channel_of(&s[64..144]); 32];
+    let mut i: usize = 0;
+    while i < 32 {
+        let at = 64 + i * 80;
+        channels[i] = channel_of(&s[at..at + 80]);
+        i += 1;
+    }
+    channels
+}

@@ -1,0 +1,219 @@
+// The six calls for a program in C or Rust, over numbers and bytes alone: no caller has anything to show. Each answers a
+// number: bits 24 to 31 say why the call refuses (0 it does not, 1 to 13 the rule, 255 a length at this border is wrong,
+// and then nothing is written), bits 0 to 23 what it gives.
+pub mod channels;
+pub mod floats;
+pub mod numbers;
+pub mod opening;
+pub mod state;
+
+ghost use mathlib.Core.Path.{_≡_};
+ghost use Prim.Native.Nat.{_+_, _*_, _<_};
+ghost use lib.ListN.{length};
+ghost use Rattle.s3m.specs.Answers.{readNumber, ordersAfter, samplesAfter, cellsAfter};
+ghost use Rattle.section.specs.Tables.{lent};
+ghost use Rattle.section.specs.Records.{flag};
+ghost use Rattle.sheet.specs.Lines.{lineAnswer, lineOutput};
+ghost use Rattle.lomqashe.specs.Answers.{answerOf, countBytes, measureRefusal, countsAfter, readRefusal, openingBy, openingAfter, openRefusal, stateOpened, sectionAnswer, stateAfter, recordsAfter, recordAnswer, StrikesNumber};
+use opening::opening_of;
+use opening::put_opening;
+use s3m::ReadAnswer;
+use s3m::header::Counts;
+use s3m::header::Measured;
+use s3m::header::measure;
+use s3m::read;
+use section::open::open;
+use section::walk::section;
+use sheet::answer::Answer;
+use sheet::line::line;
+use sheet::strikes::strikes;
+use state::put_state;
+use state::state_of;
+use tune::opening::Opening;
+use tune::parts::copy_whole;
+
+// The answer where a length at this border is wrong.
+const WRONG: u32 = 0xFF00_0000;
+
+fn refused(rule: u8) -> u32
+    ensures { λ r. ⌜ r ≡ answerOf rule 0 ⌝ }
+{
+    rule as u32 * 0x100_0000
+}
+
+fn count_bytes(c: Counts) -> [u8; 12]
+    ensures { λ r. ⌜ r ≡ countBytes c ⌝ }
+{
+    let o1 = c.orders / 256;
+    let o2 = o1 / 256;
+    let o3 = o2 / 256;
+    let i1 = c.instruments / 256;
+    let i2 = i1 / 256;
+    let i3 = i2 / 256;
+    let p1 = c.patterns / 256;
+    let p2 = p1 / 256;
+    let p3 = p2 / 256;
+    [
+        (c.orders % 256) as u8,
+        (o1 % 256) as u8,
+        (o2 % 256) as u8,
+        (o3 % 256) as u8,
+        (c.instruments % 256) as u8,
+        (i1 % 256) as u8,
+        (i2 % 256) as u8,
+        (i3 % 256) as u8,
+        (c.patterns % 256) as u8,
+        (p1 % 256) as u8,
+        (p2 % 256) as u8,
+        (p3 % 256) as u8,
+    ]
+}
+
+fn put_counts(out: &mut [u8], c: Counts)
+    requires { ⌜ length (now out) ≡ 12 ⌝ }
+    ensures { λ _. ⌜ now (out .exit) ≡ countBytes c ⌝ }
+{
+    let bytes = count_bytes(c);
+    copy_whole(out, &bytes);
+}
+
+// Measure: the numbers of orders, instruments and patterns in 12 bytes, 32 bits each.
+#[no_mangle]
+pub extern "C" fn lomqashe_measure(file: &[u8], counts: &mut [u8]) -> u32
+    ensures answer { λ r. ⌜ r ≡ answerOf (measureRefusal (now (file .entry)) (now (counts .entry))) 0 ⌝ }
+    ensures written { λ _. ⌜ now (counts .exit) ≡ countsAfter (now (file .entry)) (measureRefusal (now (file .entry)) (now (counts .entry))) (now (counts .entry)) ⌝ }
+{
+    if counts.len() != 12 {
+        return WRONG;
+    }
+    match measure(file) {
+        Measured::Found(c) => {
+            put_counts(counts, c);
+            0
+        },
+        Measured::Refused(rule) => refused(rule),
+    }
+}
+
+fn answer_read(answer: ReadAnswer, opening: &mut [u8], o: Opening) -> u32
+    requires { ⌜ length (now opening) ≡ 144 ⌝ }
+    ensures answer { λ r. ⌜ r ≡ answerOf (readNumber answer) 0 ⌝ }
+    ensures written { λ _. ⌜ now (opening .exit) ≡ openingBy answer o (now (opening .entry)) ⌝ }
+{
+    match answer {
+        ReadAnswer::Done => {
+            put_opening(opening, o);
+            0
+        },
+        ReadAnswer::Refused(rule) => refused(rule),
+    }
+}
+
+// Read: the three tables, and the opening values in 144 bytes.
+#[no_mangle]
+pub extern "C" fn lomqashe_read(
+    file: &[u8],
+    rate: u32,
+    orders: &mut [u8],
+    samples: &mut [u8],
+    cells: &mut [u8],
+    opening: &mut [u8],
+) -> u32
+    ensures answer { λ r. ⌜ r ≡ answerOf (readRefusal (now (file .entry)) (now (orders .entry)) (now (samples .entry)) (now (cells .entry)) (now (opening .entry))) 0 ⌝ }
+    ensures orders { λ _. ⌜ now (orders .exit) ≡ ordersAfter (now (file .entry)) (readRefusal (now (file .entry)) (now (orders .entry)) (now (samples .entry)) (now (cells .entry)) (now (opening .entry))) (now (orders .entry)) ⌝ }
+    ensures samples { λ _. ⌜ now (samples .exit) ≡ samplesAfter (now (file .entry)) (readRefusal (now (file .entry)) (now (orders .entry)) (now (samples .entry)) (now (cells .entry)) (now (opening .entry))) (now (samples .entry)) ⌝ }
+    ensures cells { λ _. ⌜ now (cells .exit) ≡ cellsAfter (now (file .entry)) (readRefusal (now (file .entry)) (now (orders .entry)) (now (samples .entry)) (now (cells .entry)) (now (opening .entry))) (now (cells .entry)) ⌝ }
+    ensures opening { λ _. ⌜ now (opening .exit) ≡ openingAfter (now (file .entry)) rate (readRefusal (now (file .entry)) (now (orders .entry)) (now (samples .entry)) (now (cells .entry)) (now (opening .entry))) (now (opening .entry)) ⌝ }
+{
+    if opening.len() != 144 {
+        return WRONG;
+    }
+    let given = read(file, rate, orders, samples, cells);
+    let answer = given.answer;
+    let o = given.opening;
+    answer_read(answer, opening, o)
+}
+
+// Open: the fresh state in 2,624 bytes.
+#[no_mangle]
+pub extern "C" fn lomqashe_open(
+    orders: &[u8],
+    cells: &[u8],
+    samples: &[u8],
+    opening: &[u8],
+    state: &mut [u8],
+) -> u32
+    ensures answer { λ r. ⌜ r ≡ answerOf (openRefusal (lent (now (orders .entry)) (now (cells .entry)) (now (samples .entry))) (now (opening .entry)) (now (state .entry))) 0 ⌝ }
+    ensures written { λ _. ⌜ now (state .exit) ≡ stateOpened (now (opening .entry)) (openRefusal (lent (now (orders .entry)) (now (cells .entry)) (now (samples .entry))) (now (opening .entry)) (now (state .entry))) (now (state .entry)) ⌝ }
+{
+    if opening.len() != 144 {
+        return WRONG;
+    }
+    if state.len() != 2624 {
+        return WRONG;
+    }
+    let opened = open(orders, cells, samples, opening_of(opening));
+    if opened.refusal != 0 {
+        return refused(opened.refusal);
+    }
+    let s = opened.state;
+    put_state(state, s);
+    0
+}
+
+// What Section gives: the rows in bits 0 to 15, whether the tune has ended in bit 16.
+fn rows_and_ended(rows: u32, ended: bool) -> u32
+    requires { ⌜ rows < 65536 ⌝ }
+    ensures { λ r. ⌜ r ≡ rows + flag ended * 65536 ⌝ }
+{
+    if ended { rows + 65536 } else { rows }
+}
+
+// Section: the state goes on by up to n rows. Gives the rows in bits 0 to 15, whether the tune has ended in bit 16.
+#[no_mangle]
+pub extern "C" fn lomqashe_section(
+    orders: &[u8],
+    cells: &[u8],
+    samples: &[u8],
+    state: &mut [u8],
+    n: u32,
+    output: &mut [u8],
+) -> u32
+    ensures answer { λ r. ⌜ r ≡ sectionAnswer (lent (now (orders .entry)) (now (cells .entry)) (now (samples .entry))) (now (state .entry)) n (now (output .entry)) ⌝ }
+    ensures state { λ _. ⌜ now (state .exit) ≡ stateAfter (lent (now (orders .entry)) (now (cells .entry)) (now (samples .entry))) (now (state .entry)) n (now (output .entry)) ⌝ }
+    ensures records { λ _. ⌜ now (output .exit) ≡ recordsAfter (lent (now (orders .entry)) (now (cells .entry)) (now (samples .entry))) (now (state .entry)) n (now (output .entry)) ⌝ }
+{
+    if state.len() != 2624 {
+        return WRONG;
+    }
+    let given = section(orders, cells, samples, state_of(state), n, output);
+    if given.refusal != 0 {
+        return refused(given.refusal);
+    }
+    let s = given.state;
+    put_state(state, s);
+    rows_and_ended(given.rows, given.ended)
+}
+
+// Strikes: gives the number of struck channels.
+#[no_mangle]
+pub extern "C" fn lomqashe_strikes(row: &[u8], out: &mut [u8]) -> u32
+    ensures { λ r. ⌜ StrikesNumber (now (row .entry)) (now (out .entry)) (now (out .exit)) r ⌝ }
+{
+    match strikes(row, out) {
+        Answer::Done(n) => n as u32,
+        Answer::Refused(rule) => refused(rule),
+    }
+}
+
+// Line: gives the number of bytes written.
+#[no_mangle]
+pub extern "C" fn lomqashe_line(row: &[u8], out: &mut [u8]) -> u32
+    ensures answer { λ r. ⌜ r ≡ recordAnswer (lineAnswer (now (row .entry)) (now (out .entry))) ⌝ }
+    ensures written { λ _. ⌜ now (out .exit) ≡ lineOutput (now (row .entry)) (now (out .entry)) ⌝ }
+{
+    match line(row, out) {
+        Answer::Done(n) => n as u32,
+        Answer::Refused(rule) => refused(rule),
+    }
+}

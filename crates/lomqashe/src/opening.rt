@@ -1,0 +1,130 @@
+// The 144 bytes of opening values: 0 speed, 1 tempo, 2 global volume, 3 Amiga limits, 4 fast slides, 5 to 7 spare, 8 to 11
+// rate, 12 to 15 spare; then 32 times pan, muted, right bank, AdLib.
+ghost use mathlib.Core.Path.{_≡_};
+ghost use Prim.Native.Nat.{_+_, _*_, _≤_};
+ghost use lib.ListN.{length};
+ghost use Rattle.laws.specs.Entries.{tabulate};
+ghost use Rattle.lomqashe.specs.Bytes.{inTurn};
+ghost use Rattle.lomqashe.specs.Openings.{settingBytes, settingAt, levelBytes, openingBytes, openingAt};
+use crate::numbers::flag_of;
+use crate::numbers::is_set;
+use tune::numbers::u32_at;
+use tune::opening::ChannelOpening;
+use tune::opening::Opening;
+use tune::parts::copy_whole;
+
+fn head_bytes(o: Opening) -> [u8; 16]
+    ensures { λ r. ⌜ r ≡ levelBytes o ⌝ }
+{
+    let r1 = o.rate / 256;
+    let r2 = r1 / 256;
+    let r3 = r2 / 256;
+    [
+        o.speed,
+        o.tempo,
+        o.global_volume,
+        flag_of(o.amiga_limits),
+        flag_of(o.fast_slides),
+        0,
+        0,
+        0,
+        (o.rate % 256) as u8,
+        (r1 % 256) as u8,
+        (r2 % 256) as u8,
+        (r3 % 256) as u8,
+        0,
+        0,
+        0,
+        0,
+    ]
+}
+
+fn channel_bytes(c: ChannelOpening) -> [u8; 4]
+    ensures { λ r. ⌜ r ≡ settingBytes c ⌝ }
+{
+    [
+        c.pan,
+        flag_of(c.muted),
+        flag_of(c.right_bank),
+        flag_of(c.adlib),
+    ]
+}
+
+fn put_head(part: &mut [u8], o: Opening)
+    requires { ⌜ length (now part) ≡ 16 ⌝ }
+    ensures { λ _. ⌜ now (part .exit) ≡ levelBytes o ⌝ }
+{
+    let bytes = head_bytes(o);
+    copy_whole(part, &bytes);
+}
+
+fn put_channel(part: &mut [u8], c: ChannelOpening)
+    requires { ⌜ length (now part) ≡ 4 ⌝ }
+    ensures { λ _. ⌜ now (part .exit) ≡ settingBytes c ⌝ }
+{
+    let bytes = channel_bytes(c);
+    copy_whole(part, &bytes);
+}
+
+fn put_channels(out: &mut [u8], channels: [ChannelOpening; 32])
+    requires { ⌜ length (now out) ≡ 128 ⌝ }
+    ensures { λ _. ⌜ now (out .exit) ≡ inTurn settingBytes channels ⌝ }
+{
+    let mut i: usize = 0;
+    while i < 32 {
+        let c = channels[i];
+        let at = i * 4;
+        put_channel(&mut out[at..at + 4], c);
+        i += 1;
+    }
+}
+
+pub fn put_opening(out: &mut [u8], o: Opening)
+    requires { ⌜ length (now out) ≡ 144 ⌝ }
+    ensures { λ _. ⌜ now (out .exit) ≡ openingBytes o ⌝ }
+{
+    let channels = o.channels;
+    put_head(&mut out[0..16], o);
+    put_channels(&mut out[16..144], channels);
+}
+
+fn channel_at(s: &[u8], at: usize) -> ChannelOpening
+    requires { ⌜ at + 4 ≤ length (now s) ⌝ }
+    ensures { λ r. ⌜ r ≡ settingAt (now (s .entry)) at ⌝ }
+{
+    ChannelOpening {
+        pan: s[at],
+        muted: is_set(s[at + 1]),
+        right_bank: is_set(s[at + 2]),
+        adlib: is_set(s[at + 3]),
+    }
+}
+
+fn channels_of(s: &[u8]) -> [ChannelOpening; 32]
+    requires { ⌜ length (now s) ≡ 144 ⌝ }
+    ensures { λ r. ⌜ r ≡ tabulate 32 (λ i. settingAt (now (s .entry)) (16 + i * 4)) ⌝ }
+{
+    let mut channels = [channel_at(s, 16); 32];
+    let mut i: usize = 0;
+    while i < 32 {
+        channels[i] = channel_at(s, 16 + i * 4);
+        i += 1;
+    }
+    channels
+}
+
+pub fn opening_of(s: &[u8]) -> Opening
+    requires { ⌜ length (now s) ≡ 144 ⌝ }
+    ensures { λ r. ⌜ r ≡ openingAt (now (s .entry)) ⌝ }
+{
+    let channels = channels_of(s);
+    Opening {
+        speed: s[0],
+        tempo: s[1],
+        global_volume: s[2],
+        rate: u32_at(s, 8),
+        amiga_limits: is_set(s[3]),
+        fast_slides: is_set(s[4]),
+        channels,
+    }
+}

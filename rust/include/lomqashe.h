@@ -1,0 +1,197 @@
+/*
+ * lomqashe.h - the row sheet of a Scream Tracker 3 tune
+ *
+ * Six functions over numbers and bytes, in the archive target/staticlib/liblomqashe.a that
+ * `rt staticlib lomqashe` writes (x86-64). Each result, and every byte written, is proved equal to
+ * a definition in crates/lomqashe/specs, for all inputs: no length and no value is a mistake that
+ * a function doesn't answer. They keep nothing between calls, allocate nothing, call nothing but
+ * memcpy, and may be called from several threads at once.
+ *
+ * What C must see to: a pointer is not NULL, also where its length is 0 (as in Rust); its length
+ * is that of memory which the caller owns; memory that a call writes overlaps no other argument.
+ *
+ * Numbers
+ *
+ * Every number in memory has its low byte first. A flag is written as 0 or 1 and read as not 0.
+ * Spare bytes are written as 0 and not read.
+ *
+ * Results
+ *
+ * Each function returns 32 bits. Bits 24 to 31, LOMQASHE_REFUSAL(), say why it refused:
+ *
+ *     0        it did not
+ *     1        the file is shorter than 96 bytes
+ *     2        its bytes 44 to 47 are not SCRM
+ *     3        it has 0 or over 255 orders, over 99 instruments or over 100 patterns
+ *     4        a list behind its header runs past it
+ *     5        its speed is 0, its tempo below 32 or its global volume above 64
+ *     6        a lent table is not exactly as long as the counts need
+ *     7        an instrument's 80 bytes run past the file
+ *     8        a packed pattern runs past the file before its 64th row ends
+ *     9        the tables are not 1 to 255 orders, 0 to 100 patterns and 0 to 99 samples
+ *     10       opening speed, tempo or volume is as in 5, a pan is above 15, or the rate is 0 or
+ *              above 100,000
+ *     11       the state has a row or loop start above 63, speed 0, tempo below 32, a start above
+ *              2^62, a rate as in 10, or a frequency or target that is not a number
+ *     12       n is above 65,535, or the output shorter than 536 * n bytes
+ *     13       the record is not 536 bytes, or the output has under 32 (strikes) or 64 (line)
+ *     255      counts, opening or state is not LOMQASHE_COUNTS_SIZE, _OPENING_SIZE or _STATE_SIZE
+ *              bytes long
+ *
+ * 255 is tried first, then the numbers that a function names, in their order. A call that refuses
+ * leaves all memory as it was. Bits 0 to 23, LOMQASHE_GIVEN(), are what a call that did not refuse
+ * gives; they are 0 where it did.
+ */
+#ifndef LOMQASHE_H
+#define LOMQASHE_H
+
+#include <stddef.h>
+#include <stdint.h>
+
+#ifdef __cplusplus
+extern "C" {
+#endif
+
+#define LOMQASHE_REFUSAL(result) ((uint32_t)(result) >> 24)
+#define LOMQASHE_GIVEN(result) ((uint32_t)(result) & 0xffffff)
+
+/* The refusal where a length is wrong. */
+#define LOMQASHE_WRONG_LENGTH 255
+
+#define LOMQASHE_COUNTS_SIZE 12
+#define LOMQASHE_OPENING_SIZE 144
+#define LOMQASHE_STATE_SIZE 2624
+
+/* The tables: an order is one byte; these are the bytes of a sample and of a pattern. */
+#define LOMQASHE_SAMPLE_SIZE 20
+#define LOMQASHE_PATTERN_SIZE 10240
+
+/* A record, and the least output of lomqashe_strikes() and of lomqashe_line(). */
+#define LOMQASHE_RECORD_SIZE 536
+#define LOMQASHE_STRIKES_SIZE 32
+#define LOMQASHE_LINE_SIZE 64
+
+/*
+ * lomqashe_measure() counts what an S3M file holds.
+ *
+ * counts is 12 bytes: the numbers of orders, instruments and patterns, 32 bits each.
+ *
+ * Gives 0. Refuses with 255 and 1 to 5.
+ */
+uint32_t lomqashe_measure(const uint8_t *file, size_t file_size,
+                          uint8_t *counts, size_t counts_size);
+
+/*
+ * lomqashe_read() reads an S3M file into three tables and its opening values.
+ *
+ * rate is how fast the card moves, in micrometres a second; it is handed on, and asked about by
+ * lomqashe_open() and not here.
+ * orders, samples and cells must have the bytes that the file's counts ask for: a byte an order,
+ * LOMQASHE_SAMPLE_SIZE an instrument, LOMQASHE_PATTERN_SIZE a pattern. All of them are written.
+ *
+ *     sample   type, volume, loop flag, a spare byte; then 32-bit length, loop start, loop end,
+ *              c5 speed
+ *     pattern  64 rows of 32 cells: note, instrument, volume, command, info
+ *
+ * opening is 144 bytes:
+ *
+ *     0 speed, 1 tempo, 2 global volume, 3 Amiga limits (flag), 4 fast slides (flag), 5-7 spare,
+ *     8-11 rate, 12-15 spare; then for each of 32 channels pan, muted (flag), right bank (flag),
+ *     AdLib (flag)
+ *
+ * Gives 0. Refuses with 255 (opening) and 1 to 8.
+ */
+uint32_t lomqashe_read(const uint8_t *file, size_t file_size, uint32_t rate,
+                       uint8_t *orders, size_t orders_size,
+                       uint8_t *samples, size_t samples_size,
+                       uint8_t *cells, size_t cells_size,
+                       uint8_t *opening, size_t opening_size);
+
+/*
+ * lomqashe_open() makes the state in which a tune starts.
+ *
+ * orders, cells, samples and opening are as lomqashe_read() writes them, or the caller's own.
+ * state is 2,624 bytes, to be handed to lomqashe_section(). Every 2,624 bytes are some state, and
+ * a caller may look into them and change them. The first 64 are
+ *
+ *     0 order, 1 row, 2 loop order present (flag), 3 loop order, 4 loop count present (flag),
+ *     5 loop count, 6 loop start row, 7 hold left, 8 held (flag), 9 ended (flag), 10 speed,
+ *     11 tempo, 12 global volume, 13 Amiga limits (flag), 14 fast slides (flag), 15 spare,
+ *     16-19 rate, 20-23 spare, 24-31 start on the card in micrometres,
+ *     32-63 each channel's last S info that was not 0
+ *
+ * and then for each of 32 channels 80 bytes:
+ *
+ *     0-3 frequency, 4-7 target frequency (binary32), 8-15 sample position (binary64),
+ *     16 instrument, 17 volume, 18 pan, 19 active (flag), 20 command, 21 info,
+ *     22 vibrato position, 23 tremolo position, 24 last note, 25 delay present (flag),
+ *     26 its tick, 27 note, 28 instrument, 29 volume, 30 glissando (flag),
+ *     31 vibrato waveform, 32 tremolo waveform (0 sine, 1 ramp down, 2 square, 3 random; read by
+ *     the low two bits), 33 retrig counter, 34 tremor on, 35 tremor off, 36 stored volume,
+ *     37 vibrato goes on over a new note (flag), 38 tremolo likewise (flag), 39 muted (flag),
+ *     40 frozen (flag), 41 right bank (flag), 42 AdLib (flag),
+ *     43 AdLib voice (0 none, 1 keyed, 2 released), 44 voice global volume, 45-47 spare,
+ *     48-79 effect memory, a byte a command
+ *
+ * What is absent is written as 0. The bits of any NaN are read as one NaN, which is written as
+ * 0x7fc00000 or 0x7ff8000000000000.
+ *
+ * Gives 0. Refuses with 255 (opening, state), 9 and 10.
+ */
+uint32_t lomqashe_open(const uint8_t *orders, size_t orders_size,
+                       const uint8_t *cells, size_t cells_size,
+                       const uint8_t *samples, size_t samples_size,
+                       const uint8_t *opening, size_t opening_size,
+                       uint8_t *state, size_t state_size);
+
+/*
+ * lomqashe_section() goes on by up to n rows.
+ *
+ * state is read, and overwritten with the state behind the last row.
+ * output takes a record of 536 bytes for each row; the bytes behind the last are left as they
+ * were:
+ *
+ *     0 order, 1 pattern, 2 row, 3 held (0 or 1), 4 speed, 5 tempo, 6 global volume, 7 is 0,
+ *     8-15 start, 16-19 strike mask (bit k for channel k), 20-23 length; then for each of 32
+ *     channels 16 bytes: 0-3 frequency, 4-7 target frequency (binary32), 8 instrument, 9 volume,
+ *     10 pan, 11 active, 12 last note, 13 delay tick (0 none), 14 voice global volume,
+ *     15 AdLib voice
+ *
+ * Gives the number of rows in bits 0 to 15, LOMQASHE_ROWS(), and in bit 16, LOMQASHE_ENDED(),
+ * whether the tune has ended. Fewer than n rows come only where it has. Refuses with 255 (state),
+ * 9, 11 and 12.
+ */
+uint32_t lomqashe_section(const uint8_t *orders, size_t orders_size,
+                          const uint8_t *cells, size_t cells_size,
+                          const uint8_t *samples, size_t samples_size,
+                          uint8_t *state, size_t state_size,
+                          uint32_t n, uint8_t *output, size_t output_size);
+
+#define LOMQASHE_ROWS(result) ((uint32_t)(result) & 0xffff)
+#define LOMQASHE_ENDED(result) (((uint32_t)(result) >> 16) & 1)
+
+/*
+ * lomqashe_strikes() lists the channels that a record strikes, each once, in the first bytes of
+ * out, in no order that is promised; the others of its first 32 bytes become 0, and the bytes
+ * behind are left as they were.
+ *
+ * Gives the number of channels. Refuses with 13.
+ */
+uint32_t lomqashe_strikes(const uint8_t *record, size_t record_size,
+                          uint8_t *out, size_t out_size);
+
+/*
+ * lomqashe_line() writes a record's line of the sheet to the first bytes of out: order, pattern,
+ * row, held, speed, tempo, start, length and the number of strikes, in digits with commas, and a
+ * line feed. The bytes behind are left as they were; no 0 is put there.
+ *
+ * Gives the number of bytes written, at most 64. Refuses with 13.
+ */
+uint32_t lomqashe_line(const uint8_t *record, size_t record_size,
+                       uint8_t *out, size_t out_size);
+
+#ifdef __cplusplus
+}
+#endif
+
+#endif /* LOMQASHE_H */
