@@ -1,0 +1,270 @@
+//! The exported functions of crates/lomqashe. They ask nothing of a caller but that each slice
+//! is alive, and write only into the slices that they are lent. A slice is passed as a pointer
+//! and then a length. include/lomqashe.h says what each does.
+
+use crate::Refusal;
+
+mod raw {
+    unsafe extern "C" {
+        pub fn lomqashe_measure(
+            file: *const u8,
+            file_len: usize,
+            counts: *mut u8,
+            counts_len: usize,
+        ) -> u32;
+        pub fn lomqashe_read(
+            file: *const u8,
+            file_len: usize,
+            rate: u32,
+            orders: *mut u8,
+            orders_len: usize,
+            samples: *mut u8,
+            samples_len: usize,
+            cells: *mut u8,
+            cells_len: usize,
+            opening: *mut u8,
+            opening_len: usize,
+        ) -> u32;
+        pub fn lomqashe_open(
+            orders: *const u8,
+            orders_len: usize,
+            cells: *const u8,
+            cells_len: usize,
+            samples: *const u8,
+            samples_len: usize,
+            opening: *const u8,
+            opening_len: usize,
+            state: *mut u8,
+            state_len: usize,
+        ) -> u32;
+        pub fn lomqashe_section(
+            orders: *const u8,
+            orders_len: usize,
+            cells: *const u8,
+            cells_len: usize,
+            samples: *const u8,
+            samples_len: usize,
+            state: *mut u8,
+            state_len: usize,
+            n: u32,
+            output: *mut u8,
+            output_len: usize,
+        ) -> u32;
+        pub fn lomqashe_strikes(
+            row: *const u8,
+            row_len: usize,
+            out: *mut u8,
+            out_len: usize,
+        ) -> u32;
+        pub fn lomqashe_line(row: *const u8, row_len: usize, out: *mut u8, out_len: usize) -> u32;
+    }
+}
+
+/// An answer's low 24 bits, or the refusal in its high 8.
+fn answer(number: u32) -> Result<u32, Refusal> {
+    match Refusal::new((number >> 24) as u8) {
+        Some(refusal) => Err(refusal),
+        None => Ok(number & 0xFF_FFFF),
+    }
+}
+
+// In each function below the slices are alive for the call, and the borrow checker keeps those that are written apart
+// from all others.
+
+pub fn measure(file: &[u8], counts: &mut [u8]) -> Result<u32, Refusal> {
+    answer(unsafe {
+        raw::lomqashe_measure(file.as_ptr(), file.len(), counts.as_mut_ptr(), counts.len())
+    })
+}
+
+pub fn read(
+    file: &[u8],
+    rate: u32,
+    orders: &mut [u8],
+    samples: &mut [u8],
+    cells: &mut [u8],
+    opening: &mut [u8],
+) -> Result<u32, Refusal> {
+    answer(unsafe {
+        raw::lomqashe_read(
+            file.as_ptr(),
+            file.len(),
+            rate,
+            orders.as_mut_ptr(),
+            orders.len(),
+            samples.as_mut_ptr(),
+            samples.len(),
+            cells.as_mut_ptr(),
+            cells.len(),
+            opening.as_mut_ptr(),
+            opening.len(),
+        )
+    })
+}
+
+pub fn open(
+    orders: &[u8],
+    cells: &[u8],
+    samples: &[u8],
+    opening: &[u8],
+    state: &mut [u8],
+) -> Result<u32, Refusal> {
+    answer(unsafe {
+        raw::lomqashe_open(
+            orders.as_ptr(),
+            orders.len(),
+            cells.as_ptr(),
+            cells.len(),
+            samples.as_ptr(),
+            samples.len(),
+            opening.as_ptr(),
+            opening.len(),
+            state.as_mut_ptr(),
+            state.len(),
+        )
+    })
+}
+
+pub fn section(
+    orders: &[u8],
+    cells: &[u8],
+    samples: &[u8],
+    state: &mut [u8],
+    rows: u32,
+    output: &mut [u8],
+) -> Result<u32, Refusal> {
+    answer(unsafe {
+        raw::lomqashe_section(
+            orders.as_ptr(),
+            orders.len(),
+            cells.as_ptr(),
+            cells.len(),
+            samples.as_ptr(),
+            samples.len(),
+            state.as_mut_ptr(),
+            state.len(),
+            rows,
+            output.as_mut_ptr(),
+            output.len(),
+        )
+    })
+}
+
+pub fn strikes(record: &[u8], out: &mut [u8]) -> Result<u32, Refusal> {
+    answer(unsafe {
+        raw::lomqashe_strikes(record.as_ptr(), record.len(), out.as_mut_ptr(), out.len())
+    })
+}
+
+pub fn line(record: &[u8], out: &mut [u8]) -> Result<u32, Refusal> {
+    answer(unsafe {
+        raw::lomqashe_line(record.as_ptr(), record.len(), out.as_mut_ptr(), out.len())
+    })
+}
+
+#[cfg(test)]
+mod tests {
+    use super::*;
+
+    const WORKED: &[u8] = include_bytes!("../../oracle/examples/worked.s3m");
+    const UNTOUCHED: u8 = 0xA5;
+
+    fn number(answer: Result<u32, Refusal>) -> u8 {
+        answer.map_or_else(Refusal::number, |given| panic!("it gave {given}"))
+    }
+
+    /// A call with bytes of a wrong length, which must stay.
+    fn wrong(length: usize, call: impl FnOnce(&mut [u8]) -> Result<u32, Refusal>) {
+        let mut lent = vec![UNTOUCHED; length];
+        assert_eq!(number(call(&mut lent)), 255, "{length} bytes");
+        assert!(lent.iter().all(|&byte| byte == UNTOUCHED));
+    }
+
+    #[test]
+    fn wrong_lengths_are_255_and_nothing_is_written() {
+        let orders = [0];
+        for length in [0, 11, 13] {
+            wrong(length, |counts| measure(WORKED, counts));
+        }
+        for length in [0, 143, 145] {
+            wrong(length, |opening| {
+                read(
+                    WORKED,
+                    60_000,
+                    &mut [0],
+                    &mut [0; 20],
+                    &mut [0; 10_240],
+                    opening,
+                )
+            });
+            let opening = vec![0; length];
+            wrong(2_624, |state| open(&orders, &[], &[], &opening, state));
+        }
+        for length in [0, 2_623, 2_625] {
+            wrong(length, |state| open(&orders, &[], &[], &[0; 144], state));
+            wrong(length, |state| {
+                section(&orders, &[], &[], state, 0, &mut [])
+            });
+        }
+    }
+
+    #[test]
+    fn a_wrong_length_is_told_before_any_rule() {
+        wrong(11, |counts| measure(b"", counts));
+        wrong(143, |opening| {
+            read(b"", 0, &mut [], &mut [], &mut [], opening)
+        });
+        wrong(2_623, |state| open(&[], &[], &[], &[0; 144], state));
+        wrong(2_623, |state| {
+            section(&[], &[], &[], state, u32::MAX, &mut [])
+        });
+    }
+
+    #[test]
+    fn tables_of_other_sizes_are_rule_6() {
+        let mut tables = [
+            vec![UNTOUCHED; 2],
+            vec![UNTOUCHED; 20],
+            vec![UNTOUCHED; 10_240],
+        ];
+        let mut opening = [UNTOUCHED; 144];
+        let [orders, samples, cells] = &mut tables;
+        assert_eq!(
+            number(read(WORKED, 60_000, orders, samples, cells, &mut opening)),
+            6
+        );
+        assert!(
+            tables
+                .iter()
+                .flatten()
+                .chain(&opening)
+                .all(|&byte| byte == UNTOUCHED)
+        );
+    }
+
+    #[test]
+    fn records_and_outputs_of_other_sizes_are_rule_13() {
+        for (record, room) in [(535, 64), (537, 64), (536, 31), (0, 0)] {
+            let mut out = vec![UNTOUCHED; room];
+            assert_eq!(number(strikes(&vec![0; record], &mut out)), 13);
+            assert_eq!(number(line(&vec![0; record], &mut out)), 13);
+            assert!(out.iter().all(|&byte| byte == UNTOUCHED));
+        }
+        assert_eq!(number(line(&[0; 536], &mut [0; 63])), 13);
+        assert_eq!(strikes(&[0; 536], &mut [0; 32]), Ok(0));
+    }
+
+    #[test]
+    fn bytes_behind_strikes_and_line_stay() {
+        let mut record = [0; 536];
+        record[16] = 0b101;
+        let mut out = [UNTOUCHED; 70];
+        assert_eq!(strikes(&record, &mut out), Ok(2));
+        assert_eq!(out[2..32], [0; 30]);
+        assert!(out[32..].iter().all(|&byte| byte == UNTOUCHED));
+        let mut out = [UNTOUCHED; 70];
+        assert_eq!(line(&record, &mut out), Ok(18));
+        assert_eq!(&out[..18], b"0,0,0,0,0,0,0,0,2\n");
+        assert!(out[18..].iter().all(|&byte| byte == UNTOUCHED));
+    }
+}

@@ -1,0 +1,49 @@
+//! The row processor of a card cutting table: reads a Scream Tracker 3 tune and gives its row sheet, each row with its
+//! start on the card in micrometres and what 32 channels do there.
+//!
+//! This crate is a thin, safe face of a library that is proved in Rattle: every call here is one of Measure, Read, Open,
+//! Section, Strikes and Line of document 01, and what it answers equals that call's definition. Nothing is proved of this
+//! crate itself, which carries bytes to and fro.
+//!
+//! ```
+//! let file = include_bytes!("../../oracle/examples/worked.s3m");
+//! let tune = lomqashe::Tune::read(file, 60_000)?;
+//! let mut length = 0;
+//! for record in tune.rows(50)? {
+//!     print!("{}", record.line());
+//!     length = record.start() + u64::from(record.length());
+//! }
+//! assert_eq!(length, 18_000);
+//! # Ok::<(), lomqashe::Refusal>(())
+//! ```
+
+mod bytes;
+mod ffi;
+mod opening;
+mod record;
+mod refusal;
+mod rows;
+mod state;
+mod tune;
+
+pub use opening::{ChannelOpening, Opening};
+pub use record::{ChannelRecord, Record, Strikes, Voice};
+pub use refusal::Refusal;
+pub use rows::Rows;
+pub use state::State;
+pub use tune::{Counts, Section, Tune, measure};
+
+/// The channels of a tune.
+pub const CHANNELS: usize = 32;
+
+/// The bytes of a record.
+pub const RECORD_BYTES: usize = 536;
+
+/// The bytes of a pattern in the cells table.
+pub const PATTERN_BYTES: usize = 10_240;
+
+/// The bytes of a sample in the samples table.
+pub const SAMPLE_BYTES: usize = 20;
+
+/// The most rows that one section has.
+pub const MOST_ROWS: u32 = 65_535;

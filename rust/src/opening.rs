@@ -1,0 +1,74 @@
+//! The opening values of a tune.
+
+use crate::CHANNELS;
+use crate::bytes::u32_at;
+
+/// The bytes of the opening values, as they cross to the library.
+pub(crate) const OPENING_BYTES: usize = 144;
+
+/// What a channel opens with.
+#[derive(Clone, Copy, Debug, Default, PartialEq, Eq)]
+pub struct ChannelOpening {
+    /// 0 (left) to 15 (right).
+    pub pan: u8,
+    pub muted: bool,
+    pub right_bank: bool,
+    pub adlib: bool,
+}
+
+/// What a tune opens with. Open refuses values that are out of range.
+#[derive(Clone, Debug, Default, PartialEq, Eq)]
+pub struct Opening {
+    /// Ticks of a row, 1 to 255.
+    pub speed: u8,
+    /// 32 to 255.
+    pub tempo: u8,
+    /// 0 to 64.
+    pub global_volume: u8,
+    /// Micrometres of card a second, 1 to 100,000.
+    pub rate: u32,
+    pub amiga_limits: bool,
+    pub fast_slides: bool,
+    pub channels: [ChannelOpening; CHANNELS],
+}
+
+impl Opening {
+    pub(crate) fn to_bytes(&self) -> [u8; OPENING_BYTES] {
+        let mut out = [0; OPENING_BYTES];
+        out[..3].copy_from_slice(&[self.speed, self.tempo, self.global_volume]);
+        out[3] = self.amiga_limits.into();
+        out[4] = self.fast_slides.into();
+        out[8..12].copy_from_slice(&self.rate.to_le_bytes());
+        for (channel, part) in self.channels.iter().zip(out[16..].chunks_exact_mut(4)) {
+            let ChannelOpening {
+                pan,
+                muted,
+                right_bank,
+                adlib,
+            } = *channel;
+            part.copy_from_slice(&[pan, muted.into(), right_bank.into(), adlib.into()]);
+        }
+        out
+    }
+
+    pub(crate) fn from_bytes(bytes: &[u8; OPENING_BYTES]) -> Opening {
+        let mut out = Opening {
+            speed: bytes[0],
+            tempo: bytes[1],
+            global_volume: bytes[2],
+            rate: u32_at(bytes, 8),
+            amiga_limits: bytes[3] != 0,
+            fast_slides: bytes[4] != 0,
+            channels: Default::default(),
+        };
+        for (channel, part) in out.channels.iter_mut().zip(bytes[16..].chunks_exact(4)) {
+            *channel = ChannelOpening {
+                pan: part[0],
+                muted: part[1] != 0,
+                right_bank: part[2] != 0,
+                adlib: part[3] != 0,
+            };
+        }
+        out
+    }
+}

@@ -1,0 +1,56 @@
+//! Why a call says no.
+
+use std::error::Error;
+use std::fmt;
+
+/// The rule that a file, a tune or a state breaks, by its number in document 01.
+///
+/// ```
+/// let refusal = lomqashe::Tune::read(b"no tune", 60_000).unwrap_err();
+/// assert_eq!(refusal.number(), 1);
+/// assert_eq!(refusal.to_string(), "the file is shorter than 96 bytes (rule 1)");
+/// ```
+#[derive(Clone, Copy, Debug, PartialEq, Eq, Hash)]
+pub struct Refusal(u8);
+
+impl Refusal {
+    /// The refusal of a number; none for 0.
+    pub(crate) fn new(number: u8) -> Option<Refusal> {
+        (number != 0).then_some(Refusal(number))
+    }
+
+    /// 1 to 13, or 255 where a length at the library's border is wrong.
+    pub fn number(self) -> u8 {
+        self.0
+    }
+
+    /// The rule in words.
+    pub fn text(self) -> &'static str {
+        match self.0 {
+            1 => "the file is shorter than 96 bytes",
+            2 => "bytes 44 to 47 of the file are not SCRM",
+            3 => "there are 0 or over 255 orders, over 99 instruments or over 100 patterns",
+            4 => "a list behind the header runs past the file",
+            5 => "the header's speed is 0, its tempo below 32 or its global volume above 64",
+            6 => "a lent table is not as long as the file's counts need",
+            7 => "an instrument's 80 bytes run past the file",
+            8 => "a packed pattern runs past the file before its 64th row ends",
+            9 => "the tables do not have the sizes of a tune",
+            10 => {
+                "an opening value is out of range: speed, tempo, volume, a pan above 15, or the card rate"
+            }
+            11 => "the state is none that a section can go on from",
+            12 => "more than 65,535 rows are asked for, or the output is too short for them",
+            13 => "the record is not 536 bytes, or the output is too short for its strikes or line",
+            _ => "a length at the library's border is wrong",
+        }
+    }
+}
+
+impl fmt::Display for Refusal {
+    fn fmt(&self, f: &mut fmt::Formatter<'_>) -> fmt::Result {
+        write!(f, "{} (rule {})", self.text(), self.0)
+    }
+}
+
+impl Error for Refusal {}

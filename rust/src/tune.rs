@@ -1,0 +1,144 @@
+//! A tune: owned tables and opening values, and the calls on them.
+
+use crate::bytes::u32_at;
+use crate::opening::OPENING_BYTES;
+use crate::{Opening, PATTERN_BYTES, Refusal, Rows, SAMPLE_BYTES, State, ffi};
+
+/// How many entries a file's tables have.
+#[derive(Clone, Copy, Debug, PartialEq, Eq)]
+pub struct Counts {
+    pub orders: usize,
+    pub instruments: usize,
+    pub patterns: usize,
+}
+
+/// The numbers of orders, instruments and patterns of an S3M file, or why it is not taken (rules 1 to 5).
+///
+/// ```
+/// let file = include_bytes!("../../oracle/examples/worked.s3m");
+/// assert_eq!(lomqashe::measure(file)?.patterns, 1);
+/// # Ok::<(), lomqashe::Refusal>(())
+/// ```
+pub fn measure(file: &[u8]) -> Result<Counts, Refusal> {
+    let mut counts = [0; 12];
+    ffi::measure(file, &mut counts)?;
+    let [orders, instruments, patterns] = [0, 4, 8].map(|at| u32_at(&counts, at) as usize);
+    Ok(Counts {
+        orders,
+        instruments,
+        patterns,
+    })
+}
+
+/// What a section gives beside its records.
+#[derive(Clone, Copy, Debug, PartialEq, Eq)]
+pub struct Section {
+    /// How many records it wrote.
+    pub rows: usize,
+    /// Whether the tune has ended.
+    pub ended: bool,
+}
+
+/// The tables of a tune and its opening values. Document 01 has the tables' layouts.
+#[derive(Clone, Debug, PartialEq, Eq)]
+pub struct Tune {
+    /// 0xFE is skipped, 0xFF ends, any other is a pattern's number.
+    pub orders: Vec<u8>,
+    /// 20 bytes each.
+    pub samples: Vec<u8>,
+    /// 10,240 bytes a pattern.
+    pub cells: Vec<u8>,
+    pub opening: Opening,
+}
+
+impl Tune {
+    /// Reads an S3M file. `rate` is the card's, in micrometres a second; Open refuses one that is out of range.
+    ///
+    /// ```
+    /// let file = include_bytes!("../../oracle/examples/worked.s3m");
+    /// let tune = lomqashe::Tune::read(file, 60_000)?;
+    /// assert_eq!((tune.opening.speed, tune.opening.tempo), (6, 125));
+    /// # Ok::<(), lomqashe::Refusal>(())
+    /// ```
+    pub fn read(file: &[u8], rate: u32) -> Result<Tune, Refusal> {
+        let counts = measure(file)?;
+        let mut orders = vec![0; counts.orders];
+        let mut samples = vec![0; counts.instruments * SAMPLE_BYTES];
+        let mut cells = vec![0; counts.patterns * PATTERN_BYTES];
+        let mut opening = [0; OPENING_BYTES];
+        ffi::read(
+            file,
+            rate,
+            &mut orders,
+            &mut samples,
+            &mut cells,
+            &mut opening,
+        )?;
+        let opening = Opening::from_bytes(&opening);
+        Ok(Tune {
+            orders,
+            samples,
+            cells,
+            opening,
+        })
+    }
+
+    /// The state before the first row, or rule 9 or 10.
+    pub fn open(&self) -> Result<State, Refusal> {
+        let mut state = State::blank();
+        let opening = self.opening.to_bytes();
+        ffi::open(
+            &self.orders,
+            &self.cells,
+            &self.samples,
+            &opening,
+            state.as_mut_bytes(),
+        )?;
+        Ok(state)
+    }
+
+    /// Up to `rows` rows from the state on, each a record of 536 bytes in `output`; the state moves behind them. Where it is
+    /// refused (rules 9, 11 and 12) state and output stay as they were.
+    ///
+    /// ```
+    /// let tune = lomqashe::Tune::read(include_bytes!("../../oracle/examples/worked.s3m"), 60_000)?;
+    /// let mut state = tune.open()?;
+    /// let mut output = [0; 2 * lomqashe::RECORD_BYTES];
+    /// let first = tune.section(&mut state, 2, &mut output)?;
+    /// assert_eq!((first.rows, first.ended), (2, false));
+    /// let second = tune.section(&mut state, 2, &mut output)?;
+    /// assert_eq!((second.rows, second.ended, state.start()), (1, true, 18_000));
+    /// # Ok::<(), lomqashe::Refusal>(())
+    /// ```
+    pub fn section(
+        &self,
+        state: &mut State,
+        rows: u32,
+        output: &mut [u8],
+    ) -> Result<Section, Refusal> {
+        let state = state.as_mut_bytes();
+        let answer = ffi::section(
+            &self.orders,
+            &self.cells,
+            &self.samples,
+            state,
+            rows,
+            output,
+        )?;
+        Ok(Section {
+            rows: (answer & 0xFFFF) as usize,
+            ended: answer >> 16 != 0,
+        })
+    }
+
+    /// The rows of the tune from its opening on, cut in sections of so many rows (at least 1, at most 65,535). A tune that
+    /// jumps back has no last row.
+    pub fn rows(&self, section: u32) -> Result<Rows<'_>, Refusal> {
+        Ok(Rows::new(self, self.open()?, section))
+    }
+
+    /// The same from a state on.
+    pub fn rows_from(&self, state: State, section: u32) -> Rows<'_> {
+        Rows::new(self, state, section)
+    }
+}
