@@ -8,6 +8,7 @@ use crate::pattern::{Cell, Pattern};
 use crate::samples::{Body, SampleBody};
 use crate::state::{self, ChannelState, Delay, Entered, State};
 use crate::tune::{CHANNELS, ROWS, Sample, Tune};
+use crate::walk::RECORD_BYTES;
 
 /// Put into every `sample_pos` before a row is entered. `enter_row` never reads that
 /// field and writes it exactly where it starts a note (a whole number, so never this
@@ -38,14 +39,7 @@ impl Original {
             channel.sample_pos = f64::from_bits(UNTOUCHED);
         }
         self.player.enter_row();
-        let mut strikes = 0;
-        for (i, channel) in self.player.channels.iter_mut().enumerate() {
-            if channel.sample_pos.to_bits() == UNTOUCHED {
-                channel.sample_pos = f64::from_bits(before.channels[i].sample_pos);
-            } else {
-                strikes |= 1 << i;
-            }
-        }
+        let strikes = self.struck(|i| f64::from_bits(before.channels[i].sample_pos));
         let mut after = self.get(before);
         if !after.ended {
             after.entered = Some(Entered {
@@ -61,13 +55,71 @@ impl Original {
     /// start grows here, since the original knows no card.
     pub fn leave(&mut self, entered: &State) -> State {
         self.set(entered);
+        self.leave_row();
+        let mut after = self.get(entered);
+        after.start += u64::from(row_length(entered));
+        after
+    }
+
+    /// Up to `limit` rows from a state on by the player itself, which no state is copied from or to in
+    /// between; how many there were. For timing.
+    pub fn rows_alone(&mut self, from: &State, limit: usize) -> usize {
+        self.set(from);
+        let mut rows = 0;
+        while !self.player.ended && rows < limit {
+            self.player.enter_row();
+            if self.player.ended {
+                break;
+            }
+            self.leave_row();
+            rows += 1;
+        }
+        rows
+    }
+
+    /// The same with a record of each row, as 01 lays it out, in `output`.
+    pub fn rows_recorded(&mut self, from: &State, limit: usize, output: &mut [u8]) -> usize {
+        self.set(from);
+        let mut start = from.start;
+        let mut rows = 0;
+        let mut parts = output.chunks_exact_mut(RECORD_BYTES);
+        while !self.player.ended && rows < limit {
+            let before: [f64; CHANNELS] =
+                std::array::from_fn(|i| self.player.channels[i].sample_pos);
+            for channel in &mut self.player.channels {
+                channel.sample_pos = f64::from_bits(UNTOUCHED);
+            }
+            self.player.enter_row();
+            let strikes = self.struck(|i| before[i]);
+            if self.player.ended {
+                break;
+            }
+            let part = parts.next().expect("a record for each row");
+            start += u64::from(put_record(&self.player, from.rate, start, strikes, part));
+            self.leave_row();
+            rows += 1;
+        }
+        rows
+    }
+
+    /// The channels whose mark is gone; the others have their position again.
+    fn struck(&mut self, before: impl Fn(usize) -> f64) -> u32 {
+        let mut strikes = 0;
+        for (i, channel) in self.player.channels.iter_mut().enumerate() {
+            if channel.sample_pos.to_bits() == UNTOUCHED {
+                channel.sample_pos = before(i);
+            } else {
+                strikes |= 1 << i;
+            }
+        }
+        strikes
+    }
+
+    fn leave_row(&mut self) {
         if let Some(volume) = self.player.pending_global_vol.take() {
             self.player.global_volume = volume;
         }
         self.player.next_row();
-        let mut after = self.get(entered);
-        after.start += u64::from(row_length(entered));
-        after
     }
 
     fn set(&mut self, state: &State) {
@@ -123,10 +175,48 @@ impl Original {
     }
 }
 
-/// 01's row length: speed * 5 * rate / (2 * tempo), cut down.
 fn row_length(state: &State) -> u32 {
-    let units = u64::from(state.speed) * 5 * u64::from(state.rate);
-    (units / (2 * u64::from(state.bpm))) as u32
+    length_at(state.speed, state.bpm, state.rate)
+}
+
+/// 01's row length: speed * 5 * rate / (2 * tempo), cut down.
+fn length_at(speed: u8, tempo: u8, rate: u32) -> u32 {
+    let units = u64::from(speed) * 5 * u64::from(rate);
+    (units / (2 * u64::from(tempo))) as u32
+}
+
+/// Writes an entered row's record straight from the player; the row's length.
+fn put_record(player: &PlayerState, rate: u32, start: u64, strikes: u32, part: &mut [u8]) -> u32 {
+    let length = length_at(player.speed, player.bpm, rate);
+    let (head, channels) = part.split_at_mut(24);
+    head[..8].copy_from_slice(&[
+        player.order_index,
+        player.order[usize::from(player.order_index)],
+        player.row,
+        player.replaying_for_pattern_delay.into(),
+        player.speed,
+        player.bpm,
+        player.global_volume,
+        0,
+    ]);
+    head[8..16].copy_from_slice(&start.to_le_bytes());
+    head[16..20].copy_from_slice(&strikes.to_le_bytes());
+    head[20..24].copy_from_slice(&length.to_le_bytes());
+    for (ch, part) in player.channels.iter().zip(channels.chunks_exact_mut(16)) {
+        part[..4].copy_from_slice(&ch.frequency.to_bits().to_le_bytes());
+        part[4..8].copy_from_slice(&ch.target_frequency.to_bits().to_le_bytes());
+        part[8..].copy_from_slice(&[
+            ch.instrument,
+            ch.volume,
+            ch.pan,
+            ch.active.into(),
+            ch.last_note,
+            ch.pending_delay.map_or(0, |delay| delay.fire_tick),
+            ch.voice_global_vol,
+            ch.opl_voice.is_some().into(),
+        ]);
+    }
+    length
 }
 
 /// 01's fresh state: the original's default channels with the tune's opening values.
