@@ -1,132 +1,152 @@
-//! Times the proved unpacker beside the original's, on the same patterns in one run.
+//! Times the library beside the original, on the same tunes in one run: walking rows, and reading files. README.md says
+//! what each column is.
 
-mod inputs;
-mod proved;
+mod tunes;
 
-#[allow(dead_code)]
-#[path = "../../oracle/src/standins/oxideav_core.rs"]
-mod oxideav_core;
-#[allow(dead_code)]
-#[path = "../../oracle/src/random.rs"]
-mod random;
-
-// The original's modules header, opl2 and pattern, copied by build.rs.
-include!(concat!(env!("OUT_DIR"), "/original.rs"));
-
-use header::CHANNEL_COUNT;
-use pattern::{Pattern, unpack_pattern};
+use lomqashe::{RECORD_BYTES, Tune};
+use oracle::header::parse_header;
+use oracle::pattern::unpack_all;
+use oracle::player::bridge::{Original, open};
+use oracle::tune;
+use oracle::writer;
 use std::hint::black_box;
 use std::process::ExitCode;
 use std::time::{Duration, Instant};
 
-const SIZES: &[usize] = &[
-    100,
-    250,
-    500,
-    1000,
-    2000,
-    4000,
-    8000,
-    10_400,
-    inputs::FULLEST,
-];
-const LONG_SIZES: &[usize] = &[4000, 8000, 16_000, 32_000, 64_000];
-
-/// A pattern's cells: 64 rows of 32 cells of five bytes.
-const CELLS: usize = 10_240;
-/// Where the packed bytes begin, behind the length word.
-const PACKED: u32 = 2;
-
-const ROUNDS: usize = 151;
-const ROUND: Duration = Duration::from_millis(1);
+/// Rows of one section.
+const SECTION: u32 = 1_000;
+const MOST: usize = 65_535;
+const ROUNDS: usize = 31;
+const ROUND: Duration = Duration::from_millis(10);
 
 fn main() -> ExitCode {
-    println!("64 rows; us, and ns per packed byte; best of {ROUNDS} rounds of 1 ms or more");
-    println!(" bytes |      check      |      write      |    original     | cells");
-    let mut status = ExitCode::SUCCESS;
-    for &size in SIZES {
-        let file = inputs::pattern(size);
-        let verdict = if agrees(&file) {
-            "equal"
-        } else {
-            status = ExitCode::FAILURE;
-            "DIFFERENT"
-        };
-        let mut cells = vec![0; CELLS];
-        let times = best(&mut [
-            &mut || check(&file),
-            &mut || {
-                proved::unpack(black_box(&file), PACKED, &mut cells);
-                black_box(&mut cells);
-            },
-            &mut || {
-                black_box(unpack_pattern(black_box(&file), 0, CHANNEL_COUNT));
-            },
-        ]);
-        let columns: Vec<String> = times.iter().map(|&ns| column(ns, &file)).collect();
-        println!("{:6} | {} | {verdict}", packed(&file), columns.join(" | "));
+    let tunes = tunes::all();
+    println!("rows: ns each, best of {ROUNDS} rounds of 10 ms or more; sections of {SECTION} rows");
+    println!("tune     |   rows | library | original | with records | library to with records");
+    for (name, theirs) in &tunes {
+        if !same(theirs) {
+            println!("{name}: the records differ");
+            return ExitCode::FAILURE;
+        }
+        println!("{name:8} | {}", rows_line(theirs));
     }
     println!();
-    println!("One channel named again and again, the check alone");
-    println!(" bytes |      check");
-    for &size in LONG_SIZES {
-        let file = inputs::long(size);
-        let times = best(&mut [&mut || check(&file)]);
-        println!("{:6} | {}", packed(&file), column(times[0], &file));
+    println!("reading: microseconds each, as above");
+    println!("tune     |  bytes | library | original | library to original");
+    for (name, theirs) in &tunes {
+        println!("{name:8} | {}", reading_line(theirs));
     }
-    status
+    ExitCode::SUCCESS
 }
 
-fn check(file: &[u8]) {
-    black_box(proved::runs_past(black_box(file), PACKED));
+fn ours(theirs: &tune::Tune) -> Tune {
+    let file = writer::write(theirs);
+    let mut tune = Tune::read(&file, theirs.opening.rate).expect("the writer writes good files");
+    // As the original has them: what the format cannot say stays.
+    tune.orders.clone_from(&theirs.orders);
+    tune.samples.clone_from(&theirs.samples);
+    tune.cells.clone_from(&theirs.cells);
+    tune
 }
 
-/// The best time of each in nanoseconds. They take turns, so that a slow moment hits all.
-fn best(tasks: &mut [&mut dyn FnMut()]) -> Vec<f64> {
-    let mut times = vec![f64::INFINITY; tasks.len()];
-    for _ in 0..ROUNDS {
-        for (task, time) in tasks.iter_mut().zip(&mut times) {
-            let mut calls = 0;
-            let start = Instant::now();
-            while start.elapsed() < ROUND {
-                for _ in 0..64 {
-                    task();
-                }
-                calls += 64;
-            }
-            *time = time.min(start.elapsed().as_nanos() as f64 / f64::from(calls));
+/// All rows, section by section into one output.
+fn walk(tune: &Tune, output: &mut [u8]) -> usize {
+    let mut state = tune.open().expect("it opens");
+    let mut rows = 0;
+    loop {
+        let section = tune
+            .section(&mut state, SECTION, output)
+            .expect("the state is ours");
+        rows += section.rows;
+        if section.ended {
+            return rows;
         }
     }
-    times
 }
 
-/// Whether the cells are the original's, the pattern runs past the file just where its last byte
-/// is missing, and cells that are one byte short stay.
-fn agrees(file: &[u8]) -> bool {
-    let mut cells = vec![170; CELLS];
-    let mut short = vec![170; CELLS - 1];
-    proved::unpack(file, PACKED, &mut cells)
-        && cells == original(file)
-        && !proved::runs_past(file, PACKED)
-        && proved::runs_past(&file[..file.len() - 1], PACKED)
-        && !proved::unpack(file, PACKED, &mut short)
-        && short.iter().all(|&b| b == 170)
+/// Both give the same records; a voice is none or some.
+fn same(theirs: &tune::Tune) -> bool {
+    let tune = ours(theirs);
+    let mut state = tune.open().expect("it opens");
+    let mut output = vec![0; MOST * RECORD_BYTES];
+    let rows = tune
+        .section(&mut state, MOST as u32, &mut output)
+        .expect("the state is ours")
+        .rows;
+    let mut expected = vec![0; MOST * RECORD_BYTES];
+    let original = Original::new(theirs).rows_recorded(&open(theirs), MOST, &mut expected);
+    for record in output.chunks_exact_mut(RECORD_BYTES) {
+        for channel in record[24..].chunks_exact_mut(16) {
+            channel[15] = channel[15].min(1);
+        }
+    }
+    rows == original && output == expected
 }
 
-/// The cells that the original gives, laid out as the port lays them out.
-fn original(file: &[u8]) -> Vec<u8> {
-    let Pattern { rows } = unpack_pattern(file, 0, CHANNEL_COUNT);
-    rows.iter()
-        .flatten()
-        .flat_map(|c| [c.note, c.instrument, c.volume, c.command, c.info])
-        .collect()
+fn rows_line(theirs: &tune::Tune) -> String {
+    let tune = ours(theirs);
+    let mut original = Original::new(theirs);
+    let mut again = Original::new(theirs);
+    let opened = open(theirs);
+    let mut output = vec![0; SECTION as usize * RECORD_BYTES];
+    let rows = walk(&tune, &mut output);
+    let mut recorded = vec![0; rows * RECORD_BYTES];
+    let times = best(&mut [
+        &mut || {
+            walk(black_box(&tune), black_box(&mut output));
+        },
+        &mut || {
+            black_box(original.rows_alone(black_box(&opened), MOST));
+        },
+        &mut || {
+            black_box(again.rows_recorded(black_box(&opened), MOST, black_box(&mut recorded)));
+        },
+    ]);
+    let [library, alone, with] = times.map(|ns| ns / rows as f64);
+    format!(
+        "{rows:6} | {library:7.1} | {alone:8.1} | {with:12.1} | {:.2}",
+        library / with
+    )
 }
 
-fn packed(file: &[u8]) -> usize {
-    file.len() - PACKED as usize
+fn reading_line(theirs: &tune::Tune) -> String {
+    let file = writer::write(theirs);
+    let times = best(&mut [
+        &mut || {
+            black_box(Tune::read(black_box(&file), 60_000).expect("a good file"));
+        },
+        &mut || {
+            let header = parse_header(black_box(&file)).expect("a good file");
+            let patterns = unpack_all(&header, &file);
+            black_box((header, patterns));
+        },
+    ]);
+    let [library, original] = times.map(|ns| ns / 1000.0);
+    format!(
+        "{:6} | {library:7.1} | {original:8.1} | {:.2}",
+        file.len(),
+        library / original
+    )
 }
 
-/// Microseconds for the file, and nanoseconds for each packed byte.
-fn column(ns: f64, file: &[u8]) -> String {
-    format!("{:7.2} {:7.2}", ns / 1000.0, ns / packed(file) as f64)
+/// The best time of each in nanoseconds; they take turns, so that all meet the same machine.
+fn best<const N: usize>(works: &mut [&mut dyn FnMut(); N]) -> [f64; N] {
+    let mut best = [f64::INFINITY; N];
+    for _ in 0..ROUNDS {
+        for (work, best) in works.iter_mut().zip(&mut best) {
+            *best = best.min(round(*work));
+        }
+    }
+    best
+}
+
+/// Nanoseconds of one call, over a round of at least `ROUND`.
+fn round(work: &mut dyn FnMut()) -> f64 {
+    let began = Instant::now();
+    let mut calls = 0;
+    while began.elapsed() < ROUND {
+        work();
+        calls += 1;
+    }
+    began.elapsed().as_nanos() as f64 / f64::from(calls)
 }
