@@ -5,9 +5,9 @@ use Prim.Native.Nat.{ℕ, _*_, _^_, _≤_, _<_}
 use native.Mathlib.Nat.{mul-comm, mul-assoc, mul-left-comm, mul-one, mul-pos, le-trans, mul-le-mul-left, mul-le-mul-right, zero-lt-suc, lt-irrefl}
 use native.Mathlib.Omega.{arith}
 use lib.IntN.{pos}
-use lib.Dec.{T, le→leb, eqb, ltb→lt, eqb→eq, not-T, lit≤, lit<}
+use lib.Dec.{T, eqb, ltb→lt, eqb→eq, not-T, lit≤, lit<}
 use lib.Pow.{pow-pos, pow-mono}
-use lib.Ieee.{Float, nan, inf, fin, Format, binary32, binary64, up, down, round, div, ofInt, ofBits, inFloat, le}
+use lib.Ieee.{Float, nan, inf, fin, Format, binary32, binary64, up, down, round, div, ofInt, ofBits, le}
 use lib.Ieee.Fits.{up-pos, down-pos}
 use lib.Ieee.Bits.{is-false, cond-no}
 use lib.Ieee.Exact.{HasValue}
@@ -99,8 +99,3 @@ at-zero = refl
 pub above-zero : (p : ℕ) → 0 < p → frequencyOf p ≡ narrowed (div binary64 clock (ofInt binary64 (pos p)))
 unfolding frequencyOf
 above-zero p P = rw (is-false (eqb p 0) (not-zero p P))
-
--- a period may be made a float
-pub castable : (p : ℕ) → p ≤ 2 ^ 53 → T (inFloat binary64 (pos p))
-unfolding inFloat
-castable p h = le→leb p (2 ^ 53) h

@@ -25,14 +25,14 @@ fn at_least_one(c5: u32) -> u32
 }
 
 // The period of note number n at a c5 speed.
-fn period_at(n: usize, c5: u32) -> u64
+fn period_at(n: usize, c5: u32) -> u32
     requires { ⌜ n < 108 ⌝ }
     ensures { λ r. ⌜ r ≡ periodAt n c5 ⌝ }
 {
-    8363 * (period(n) as u64) / (at_least_one(c5) as u64)
+    8363 * period(n) / at_least_one(c5)
 }
 
-fn frequency_of(period: u64) -> f32
+fn frequency_of(period: u32) -> f32
     requires { ⌜ period < 268435456 ⌝ }
     ensures { λ r. ⌜ r ≡ frequencyOf period ⌝ }
 {

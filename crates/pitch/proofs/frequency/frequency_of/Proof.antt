@@ -5,7 +5,7 @@ use native.Mathlib.Omega.{arith}
 use lib.IntN.{pos}
 use lib.Ieee.{Float, binary64, div, ofInt}
 use Rattle.pitch.specs.Frequency.{narrowed, frequencyOf}
-use Rattle.pitch.proofs.Division.{clock-is, at-zero, above-zero, castable, from-least, to-most}
+use Rattle.pitch.proofs.Division.{clock-is, at-zero, above-zero, from-least, to-most}
 use Rattle.pitch.proofs.frequency.frequency_of.Statement.{statement}
 use Rattle.pitch.proofs.frequency.frequency_of.Tie as tie
 
@@ -13,7 +13,7 @@ returns : tie.Need-returns
 returns c = at-zero ∙ ap frequencyOf (sym (c .if1 .taken))
 
 int-to-float-narrow : tie.Need-int-to-float-narrow
-int-to-float-narrow c = castable (c .before .before .args .period) (omega arith)
+int-to-float-narrow c = tt
 
 narrow-requires : tie.Need-narrow-requires
 narrow-requires c κs =
