@@ -1,4 +1,5 @@
 pub mod Slots
+pub mod Storing
 pub mod Volumes
 pub mod Own
 pub mod Held

@@ -9,7 +9,7 @@ use Rattle.laws.specs.Choice.{pick}
 use Rattle.tune.specs.declared.cells.Cell.{Cell}
 use Rattle.channel.specs.declared.state.Channel.{Channel}
 use Rattle.channel.specs.declared.state.TriggerOption.the-variants.{None}
-use Rattle.channel.specs.Set.{withRow}
+use Rattle.channel.specs.Set.{withRow, withMemory}
 
 -- the commands that thaw a frozen channel: E, F, G, H, J, K, L, U
 unfoldable pub resumes : ℕ → Bool
@@ -41,3 +41,7 @@ begun c l sInfo =
     (pick (eqb (l .command) 17) (c .«retrig_counter») 0)
     (stored (c .«effect_memory») (l .command) (l .info))
     (c .frozen && not (resumes (l .command)))
+
+-- the same before other info is stored
+unfoldable pub armed : Channel → Cell → ℕ → Channel
+armed c l sInfo = withMemory (begun c l sInfo) (c .«effect_memory»)

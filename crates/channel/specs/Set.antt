@@ -55,6 +55,14 @@ withRow c k x d n m f =
     (c .«tremor_off_counter») (c .«stored_volume») (c .«keep_vibrato_pos_on_new_note») (c .«keep_tremolo_pos_on_new_note») m (c .muted) f
     (c .«right_bank») (c .adlib) (c .«opl_voice») (c .«voice_global_vol»)
 
+unfoldable pub withMemory : Channel → List ℕ → Channel
+withMemory c m =
+    channel
+    (c .instrument) (c .frequency) (c .«sample_pos») (c .volume) (c .pan) (c .active) (c .«target_frequency») (c .command) (c .info)
+    (c .«vibrato_pos») (c .«tremolo_pos») (c .«last_note») (c .«pending_delay») (c .glissando) (c .«vibrato_waveform») (c .«tremolo_waveform»)
+    (c .«retrig_counter») (c .«tremor_on_counter») (c .«tremor_off_counter») (c .«stored_volume») (c .«keep_vibrato_pos_on_new_note»)
+    (c .«keep_tremolo_pos_on_new_note») m (c .muted) (c .frozen) (c .«right_bank») (c .adlib) (c .«opl_voice») (c .«voice_global_vol»)
+
 unfoldable pub withDelay : Channel → TriggerOption → Channel
 withDelay c d =
     channel

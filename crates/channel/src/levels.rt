@@ -16,20 +16,12 @@ pub fn clamp_pcm_volume(v: u16) -> u8
     if v < 63 { v as u8 } else { 63 }
 }
 
-fn clamp_adlib_volume(v: u8) -> u8
-    ensures { λ r. ⌜ r ≡ min v 64 ⌝ }
-{
-    if v < 64 { v } else { 64 }
-}
-
 // The volume that an instrument loads.
 pub fn load_peak(adlib: bool, v: u8) -> u8
     ensures { λ r. ⌜ r ≡ loadPeak adlib v ⌝ }
 {
-    if adlib {
-        return clamp_adlib_volume(v);
-    }
-    clamp_pcm_volume(v as u16)
+    let most = choose(adlib, 64, 63);
+    if v < most { v } else { most }
 }
 
 fn raise(v: u8, x: u8) -> u8

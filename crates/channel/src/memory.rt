@@ -1,8 +1,10 @@
 // A row begins on a channel.
 ghost use mathlib.Core.Path.{_≡_};
+ghost use mathlib.Core.Bool.{_&&_, not};
+ghost use lib.Dec.{eqb};
 ghost use Prim.Native.Nat.{_<_, _≤_};
 ghost use lib.ListN.{length};
-ghost use Rattle.channel.specs.Memory.{resumes, hasMemory, slotOf, remembered, recalled, stored, begun};
+ghost use Rattle.channel.specs.Memory.{resumes, hasMemory, slotOf, remembered, recalled, armed};
 use crate::levels::choose;
 use crate::state::Channel;
 use crate::state::TriggerOption;
@@ -27,7 +29,7 @@ fn uses_memory(command: u8) -> bool
     (4 <= command) & (command <= 26) & (command != 19) & (command != 20) & (command != 22)
 }
 
-fn memory_slot(command: u8) -> usize
+pub fn memory_slot(command: u8) -> usize
     ensures { λ r. ⌜ r ≡ slotOf command ⌝ }
 {
     if command == 21 { 8 } else { command as usize }
@@ -55,31 +57,37 @@ fn recall(memory: [u8; 32], command: u8, info: u8, s_info: u8) -> u8
     info
 }
 
-fn store(memory: [u8; 32], command: u8, info: u8) -> [u8; 32]
-    ensures { λ r. ⌜ r ≡ stored memory command info ⌝ }
+// Whether a cell's info is stored.
+pub fn stores(command: u8, info: u8) -> bool
+    ensures { λ r. ⌜ r ≡ hasMemory command && not (eqb info 0) ⌝ }
 {
-    let mut m = memory;
-    if uses_memory(command) & (info != 0) {
-        m[memory_slot(command)] = info;
-    }
-    m
+    uses_memory(command) & (info != 0)
 }
 
-// The channel with the row's command, its info recalled or stored.
-pub fn begin(c: Channel, cell: Cell, s_info: u8) -> Channel
-    ensures { λ r. ⌜ r ≡ begun c cell «s_info» ⌝ }
+// A channel stays frozen unless the command resumes it.
+fn stays_frozen(frozen: bool, command: u8) -> bool
+    ensures { λ r. ⌜ r ≡ frozen && not (resumes command) ⌝ }
+{
+    if frozen {
+        return !is_resume_command(command);
+    }
+    false
+}
+
+// The channel with the row's command, its info recalled. What the row stores is set last, by enter_channel.
+pub fn arm(c: Channel, cell: Cell, s_info: u8) -> Channel
+    ensures { λ r. ⌜ r ≡ armed c cell «s_info» ⌝ }
 {
     let memory = c.effect_memory;
     let info = recall(memory, cell.command, cell.info, s_info);
     let counter = choose(cell.command == 17, c.retrig_counter, 0);
-    let stored = store(memory, cell.command, cell.info);
-    let frozen = c.frozen & !is_resume_command(cell.command);
+    let frozen = stays_frozen(c.frozen, cell.command);
     c.with_row(
         cell.command,
         info,
         TriggerOption::None,
         counter,
-        stored,
+        memory,
         frozen,
     )
 }

@@ -5,7 +5,9 @@ ghost use lib.ListN.{length};
 ghost use Rattle.laws.specs.Masks.{bitAt};
 ghost use Rattle.channel.specs.Row.{putsOff, putOff, heldBack, withInfo, delivered, relatched, channelEntered};
 use crate::commands::act;
-use crate::memory::begin;
+use crate::memory::arm;
+use crate::memory::memory_slot;
+use crate::memory::stores;
 use crate::play::play_cell;
 use crate::state::Channel;
 use crate::state::PendingTrigger;
@@ -91,10 +93,15 @@ pub fn enter_channel(
 ) -> Played
     ensures { λ r. ⌜ r ≡ channelEntered c cell «s_info» (now (samples .entry)) w global ⌝ }
 {
-    let begun = begin(c, cell, s_info);
-    let e = deliver(begun, cell, samples, w.amiga_limits, global);
+    let mut memory = c.effect_memory;
+    if stores(cell.command, cell.info) {
+        memory[memory_slot(cell.command)] = cell.info;
+    }
+    let armed = arm(c, cell, s_info);
+    let e = deliver(armed, cell, samples, w.amiga_limits, global);
     let delivered = e.channel;
-    let channel = relatch(act(delivered, w), c.volume, global);
+    let mut channel = relatch(act(delivered, w), c.volume, global);
+    channel.effect_memory = memory;
     Played {
         channel,
         struck: e.struck,

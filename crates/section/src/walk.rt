@@ -54,7 +54,10 @@ fn given(
 fn skips(held: bool, c: Channel, cell: Cell) -> bool
     ensures { λ r. ⌜ r ≡ held || (atRest c && quiet cell) ⌝ }
 {
-    held | (is_at_rest(c) & is_quiet(cell))
+    if is_quiet(cell) {
+        return held | is_at_rest(c);
+    }
+    held
 }
 
 // Up to n rows. One local array of channels serves the whole call: a state copied for each row would cost more than
@@ -92,11 +95,14 @@ fn walk(
         let mut i: usize = 0;
         while i < 32 {
             let cell = cell_of(row, i);
-            let c = channels[i];
-            if skips(here.hold.held, c, cell) {
+            // Read again in each branch: the test then loads no more of a channel than it needs.
+            let tested = channels[i];
+            if skips(here.hold.held, tested, cell) {
+                let c = channels[i];
                 put_channel(output, at + 24 + i * 16, c);
                 i += 1;
             } else {
+                let c = channels[i];
                 let played = enter_channel(c, cell, infos[i], samples, s.switches, global);
                 let d = played.channel;
                 put_channel(output, at + 24 + i * 16, d);

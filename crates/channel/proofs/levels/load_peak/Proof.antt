@@ -1,19 +1,30 @@
 -- `channel::levels::load_peak` meets its contract. Assumes nothing.
+use Prim.Native.Nat.{ℕ, _<_, _≤_}
+use mathlib.Core.Path.{_≡_}
+use mathlib.Core.Bool.{Bool, true, false}
+use native.Mathlib.Omega.{arith}
 use borrow.Author.Needs.{needs}
+use Rattle.laws.specs.Choice.{pick}
+use Rattle.channel.specs.Levels.{loadPeak}
 use Rattle.channel.proofs.levels.load_peak.Statement.{statement}
 use Rattle.channel.proofs.levels.load_peak.Tie as tie
 
-clamp-adlib-volume-requires : tie.Need-clamp-adlib-volume-requires
-clamp-adlib-volume-requires c κs = search needs
+below : (b : Bool) (v m : ℕ) → m ≡ pick b 64 63 → v < m → v ≡ loadPeak b v
+below true v m e h = omega (arith, e, h)
+below false v m e h = omega (arith, e, h)
+
+not-below : (b : Bool) (v m : ℕ) → m ≡ pick b 64 63 → m ≤ v → m ≡ loadPeak b v
+not-below true v m e h = omega (arith, e, h)
+not-below false v m e h = omega (arith, e, h)
+
+choose-requires : tie.Need-choose-requires
+choose-requires c κs = search needs
 
 returns : tie.Need-returns
-returns c = simp (c .before .if1 .taken, ← c .clamp-adlib-volume .ensures)
-
-clamp-pcm-volume-requires : tie.Need-clamp-pcm-volume-requires
-clamp-pcm-volume-requires c κs = search needs
+returns c = below (c .before .before .args .adlib) _ _ (c .before .choose .ensures) (c .if1 .taken)
 
 returns-2 : tie.Need-returns-2
-returns-2 c = simp (c .before .if1 .left, ← c .clamp-pcm-volume .ensures)
+returns-2 c = not-below (c .before .before .args .adlib) _ _ (c .before .choose .ensures) (c .if1 .left)
 
 pub load-peak-spec : {M : Type 1} → statement M
-load-peak-spec = tie.close (tie.spec clamp-adlib-volume-requires returns clamp-pcm-volume-requires returns-2)
+load-peak-spec = tie.close (tie.spec choose-requires returns returns-2)

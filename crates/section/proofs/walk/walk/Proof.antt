@@ -77,14 +77,20 @@ loop2-holds c =
 cell-of-requires : tie.Need-cell-of-requires Inv-loop2 μ-loop2 Inv-loop μ-loop
 cell-of-requires c κs = search needs
 
+mul-tested : tie.Need-mul-tested Inv-loop2 μ-loop2 Inv-loop μ-loop
+mul-tested c = search needs
+
+array-copy-out-tested : tie.Need-array-copy-out-tested Inv-loop2 μ-loop2 Inv-loop μ-loop
+array-copy-out-tested c = search needs
+
+skips-requires : tie.Need-skips-requires Inv-loop2 μ-loop2 Inv-loop μ-loop
+skips-requires c κs = search needs
+
 mul-c : tie.Need-mul-c Inv-loop2 μ-loop2 Inv-loop μ-loop
 mul-c c = search needs
 
 array-copy-out-c : tie.Need-array-copy-out-c Inv-loop2 μ-loop2 Inv-loop μ-loop
 array-copy-out-c c = search needs
-
-skips-requires : tie.Need-skips-requires Inv-loop2 μ-loop2 Inv-loop μ-loop
-skips-requires c κs = search needs
 
 add-put-channel : tie.Need-add-put-channel Inv-loop2 μ-loop2 Inv-loop μ-loop
 add-put-channel c = search needs
@@ -97,7 +103,7 @@ add-put-channel-2 c = search needs
 
 put-channel-requires : tie.Need-put-channel-requires Inv-loop2 μ-loop2 Inv-loop μ-loop
 put-channel-requires c κs =
-    let t = c .before .before .before .before .before in
+    let t = c .before .before .before .before .before .before in
     let u = t .before .loop2 in
     let h : u .i < length (u .channels) = omega (arith, u .inv .count, t .loop2-test .taken) in
     (omega (arith, u .inv .room, visit-room (u .inv), t .loop2-test .taken), u .inv .numbers _ _ h .frequency, u .inv .numbers _ _ h .target)
@@ -110,8 +116,14 @@ loop2-less c = search needs
 
 loop2-again : tie.Need-loop2-again Inv-loop2 μ-loop2 Inv-loop μ-loop
 loop2-again c =
-    let t = c .before .before .before .before .before .before .before in
-    visit-skip (t .before .before .loop2 .inv) _ _ _ _ (t .before .loop2-test .taken) (t .cell-of .ensures) (c .before .before .before .before .before .skips .ensures) (c .before .before .before .before .if3 .taken) (c .before .before .put-channel .ensures)
+    let t = c .before .before .before .before .before .before .before .before in
+    visit-skip (t .before .before .loop2 .inv) _ _ _ _ (t .before .loop2-test .taken) (t .cell-of .ensures) (c .before .before .before .before .before .before .skips .ensures) (c .before .before .before .before .before .if3 .taken) (c .before .before .put-channel .ensures)
+
+mul-c-2 : tie.Need-mul-c-2 Inv-loop2 μ-loop2 Inv-loop μ-loop
+mul-c-2 c = search needs
+
+array-copy-out-c-2 : tie.Need-array-copy-out-c-2 Inv-loop2 μ-loop2 Inv-loop μ-loop
+array-copy-out-c-2 c = search needs
 
 array-read-enter-channel : tie.Need-array-read-enter-channel Inv-loop2 μ-loop2 Inv-loop μ-loop
 array-read-enter-channel c = search needs
@@ -121,7 +133,7 @@ enter-channel-requires c κs = search needs
 
 add-put-channel-3 : tie.Need-add-put-channel-3 Inv-loop2 μ-loop2 Inv-loop μ-loop
 add-put-channel-3 c =
-    let v = c .before .before .before .before .before .before .before .before .before .before .before .before .before .before .before .before .loop .inv in
+    let v = c .before .before .before .before .before .before .before .before .before .before .before .before .before .before .before .before .before .loop .inv in
     omega (arith, v .some, v .few)
 
 mul-put-channel-2 : tie.Need-mul-put-channel-2 Inv-loop2 μ-loop2 Inv-loop μ-loop
@@ -129,15 +141,15 @@ mul-put-channel-2 c = search needs
 
 add-put-channel-4 : tie.Need-add-put-channel-4 Inv-loop2 μ-loop2 Inv-loop μ-loop
 add-put-channel-4 c =
-    let t = c .before .before .before .before .before .before .before in
+    let t = c .before .before .before .before .before .before .before .before in
     let v = t .before .before .before .before .before .before .before .before .before .loop .inv in
     omega (arith, v .some, v .few, t .loop2-test .taken)
 
 put-channel-requires-2 : tie.Need-put-channel-requires-2 Inv-loop2 μ-loop2 Inv-loop μ-loop
 put-channel-requires-2 c κs =
-    let t = c .before .before .before .before .before .before in
+    let t = c .before .before .before .before .before .before .before in
     let v = t .before .before .loop2 .inv in
-    let h = enter-number v _ _ _ _ (t .before .loop2-test .taken) (t .cell-of .ensures) (c .before .before .before .before .skips .ensures) (c .before .before .before .if3 .left) (c .before .before .enter-channel .ensures) in
+    let h = enter-number v _ _ _ _ (t .before .loop2-test .taken) (t .cell-of .ensures) (c .before .before .before .before .before .skips .ensures) (c .before .before .before .before .if3 .left) (c .before .before .enter-channel .ensures) in
     (omega (arith, v .room, visit-room v, t .before .loop2-test .taken), h .frequency, h .target)
 
 mul-channels : tie.Need-mul-channels Inv-loop2 μ-loop2 Inv-loop μ-loop
@@ -161,8 +173,8 @@ loop2-less-2 c = search needs
 loop2-again-2 : tie.Need-loop2-again-2 Inv-loop2 μ-loop2 Inv-loop μ-loop
 loop2-again-2 c =
     let p = c .before .before .before .before .before .before .before in
-    let t = p .before .before .before .before in
-    visit-enter (t .before .before .loop2 .inv) _ _ _ _ _ _ _ (t .before .loop2-test .taken) (t .cell-of .ensures) (p .before .before .skips .ensures) (p .before .if3 .left) (p .enter-channel .ensures)
+    let t = p .before .before .before .before .before in
+    visit-enter (t .before .before .loop2 .inv) _ _ _ _ _ _ _ (t .before .loop2-test .taken) (t .cell-of .ensures) (p .before .before .before .skips .ensures) (p .before .before .if3 .left) (p .enter-channel .ensures)
     (c .before .before .before .before .put-channel2 .ensures) (c .before .mark .ensures) (c .hear-volume .ensures)
 
 put-head-requires : tie.Need-put-head-requires Inv-loop2 μ-loop2 Inv-loop μ-loop
@@ -225,9 +237,11 @@ walk-spec =
     row-cells-requires
     loop2-holds
     cell-of-requires
+    mul-tested
+    array-copy-out-tested
+    skips-requires
     mul-c
     array-copy-out-c
-    skips-requires
     add-put-channel
     mul-put-channel
     add-put-channel-2
@@ -235,6 +249,8 @@ walk-spec =
     add-i
     loop2-less
     loop2-again
+    mul-c-2
+    array-copy-out-c-2
     array-read-enter-channel
     enter-channel-requires
     add-put-channel-3
