@@ -9,6 +9,7 @@ use crate::row::enter_channel;
 use crate::state::Channel;
 use crate::state::Played;
 use crate::state::Switches;
+use pitch::periods::period_table;
 use tune::cells::Cell;
 use tune::cells::cell_of;
 
@@ -49,6 +50,7 @@ pub fn enter_channels(
     requires { ⌜ length (now row) ≡ 160 ⌝ }
     ensures { λ r. ⌜ r ≡ rowEntered (now (row .entry)) «s_infos» (now (samples .entry)) w global channels ⌝ }
 {
+    let table = period_table();
     let mut entered = channels;
     let mut strikes: u32 = 0;
     let mut waiting = global;
@@ -56,7 +58,7 @@ pub fn enter_channels(
     while i < 32 {
         let cell = cell_of(row, i);
         let c = entered[i];
-        let e = enter_channel(c, cell, s_infos[i], samples, w, global);
+        let e = enter_channel(c, cell, s_infos[i], samples, &table, w, global);
         let d = e.channel;
         entered[i] = d;
         strikes = mark(strikes, i, e.struck);

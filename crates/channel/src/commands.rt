@@ -1,6 +1,7 @@
 // Commands that act at a row's start.
 ghost use mathlib.Core.Path.{_≡_};
 ghost use Prim.Native.Nat.{_<_};
+ghost use Rattle.pitch.specs.Periods.{periods};
 ghost use Rattle.pitch.specs.Slides.{factorNumber, slid};
 ghost use Rattle.pitch.specs.Limits.{limited};
 ghost use Rattle.channel.specs.Commands.{fineSlid, finetuned, waveformOf, keepsPosition, extendedBy, commanded};
@@ -35,15 +36,18 @@ fn slide_finely(c: Channel, up: bool, amiga: bool) -> Channel
 }
 
 // S2x.
-fn tune_finely(c: Channel, p: u8, amiga: bool) -> Channel
-    requires { ⌜ p < 16 ⌝ }
+fn tune_finely(c: Channel, p: u8, table: &[u32], amiga: bool) -> Channel
+    requires { ⌜ p < 16 ⌝ ∗ ⌜ now table ≡ periods ⌝ }
     ensures { λ r. ⌜ r ≡ finetuned c p amiga ⌝ }
 {
     let mut d = c;
     if c.last_note == 0 {
         return d;
     }
-    let f = clamp_amiga(note_to_frequency(c.last_note, finetune(p as usize)), amiga);
+    let f = clamp_amiga(
+        note_to_frequency(c.last_note, finetune(p as usize), table),
+        amiga,
+    );
     d.frequency = f;
     d.target_frequency = f;
     d
@@ -68,8 +72,8 @@ fn keeps_position(p: u8) -> bool
 }
 
 // Sxp.
-fn extended(c: Channel, x: u8, p: u8, amiga: bool) -> Channel
-    requires { ⌜ p < 16 ⌝ }
+fn extended(c: Channel, x: u8, p: u8, table: &[u32], amiga: bool) -> Channel
+    requires { ⌜ p < 16 ⌝ ∗ ⌜ now table ≡ periods ⌝ }
     ensures { λ r. ⌜ r ≡ extendedBy c x p amiga ⌝ }
 {
     let mut d = c;
@@ -78,7 +82,7 @@ fn extended(c: Channel, x: u8, p: u8, amiga: bool) -> Channel
             d.glissando = p != 0;
             d
         }
-        2 => tune_finely(c, p, amiga),
+        2 => tune_finely(c, p, table, amiga),
         3 => c.with_vibrato(waveform_of(p), keeps_position(p)),
         4 => c.with_tremolo(waveform_of(p), keeps_position(p)),
         8 => {
@@ -94,7 +98,8 @@ fn extended(c: Channel, x: u8, p: u8, amiga: bool) -> Channel
 }
 
 // The channel's command on tick 0.
-pub fn act(c: Channel, w: Switches) -> Channel
+pub fn act(c: Channel, table: &[u32], w: Switches) -> Channel
+    requires { ⌜ now table ≡ periods ⌝ }
     ensures { λ r. ⌜ r ≡ commanded c w ⌝ }
 {
     let mut d = c;
@@ -106,7 +111,7 @@ pub fn act(c: Channel, w: Switches) -> Channel
         }
         5 => slide_finely(c, false, w.amiga_limits),
         6 => slide_finely(c, true, w.amiga_limits),
-        19 => extended(c, c.info / 16, c.info % 16, w.amiga_limits),
+        19 => extended(c, c.info / 16, c.info % 16, table, w.amiga_limits),
         24 => {
             d.pan = set_pan(c.info);
             d

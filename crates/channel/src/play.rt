@@ -1,6 +1,7 @@
 // Playing a cell's instrument, note and volume.
 ghost use mathlib.Core.Path.{_≡_};
 ghost use lib.ListN.{length};
+ghost use Rattle.pitch.specs.Periods.{periods};
 ghost use Rattle.channel.specs.Play.{loaded, cut, aimed, startOf, voiceOf, started, slides, noteOn, slidBack, noted, volumed, playCell};
 use crate::levels::choose;
 use crate::levels::clamp_pcm_volume;
@@ -107,7 +108,8 @@ fn is_slide(command: u8) -> bool
     (command == 7) | (command == 12)
 }
 
-fn note_on(c: Channel, cell: Cell, named: SampleOption, amiga: bool) -> Played
+fn note_on(c: Channel, cell: Cell, named: SampleOption, table: &[u32], amiga: bool) -> Played
+    requires { ⌜ now table ≡ periods ⌝ }
     ensures { λ r. ⌜ r ≡ noteOn c cell named amiga ⌝ }
 {
     match named {
@@ -116,7 +118,7 @@ fn note_on(c: Channel, cell: Cell, named: SampleOption, amiga: bool) -> Played
             struck: false,
         },
         SampleOption::Some(s) => {
-            let f = note_to_frequency(cell.note, s.c5_speed);
+            let f = note_to_frequency(cell.note, s.c5_speed, table);
             if is_slide(cell.command) & (c.frequency > 0.0) {
                 let channel = aim(c, cell.note, f, amiga);
                 return Played {
@@ -133,14 +135,15 @@ fn note_on(c: Channel, cell: Cell, named: SampleOption, amiga: bool) -> Played
     }
 }
 
-fn slide_back(c: Channel, cell: Cell, named: SampleOption, amiga: bool) -> Channel
+fn slide_back(c: Channel, cell: Cell, named: SampleOption, table: &[u32], amiga: bool) -> Channel
+    requires { ⌜ now table ≡ periods ⌝ }
     ensures { λ r. ⌜ r ≡ slidBack c cell named amiga ⌝ }
 {
     match named {
         SampleOption::None => c,
         SampleOption::Some(s) => {
             if is_slide(cell.command) & (c.last_note != 0) {
-                let f = note_to_frequency(c.last_note, s.c5_speed);
+                let f = note_to_frequency(c.last_note, s.c5_speed, table);
                 return aim(c, c.last_note, f, amiga);
             }
             c
@@ -148,7 +151,8 @@ fn slide_back(c: Channel, cell: Cell, named: SampleOption, amiga: bool) -> Chann
     }
 }
 
-fn note_column(c: Channel, cell: Cell, named: SampleOption, amiga: bool) -> Played
+fn note_column(c: Channel, cell: Cell, named: SampleOption, table: &[u32], amiga: bool) -> Played
+    requires { ⌜ now table ≡ periods ⌝ }
     ensures { λ r. ⌜ r ≡ noted c cell named amiga ⌝ }
 {
     if cell.note == 254 {
@@ -159,13 +163,13 @@ fn note_column(c: Channel, cell: Cell, named: SampleOption, amiga: bool) -> Play
         };
     }
     if cell.note == 255 {
-        let channel = slide_back(c, cell, named, amiga);
+        let channel = slide_back(c, cell, named, table, amiga);
         return Played {
             channel,
             struck: false,
         };
     }
-    note_on(c, cell, named, amiga)
+    note_on(c, cell, named, table, amiga)
 }
 
 fn volume_column(c: Channel, volume: u8, global: u8) -> Channel
@@ -183,13 +187,21 @@ fn volume_column(c: Channel, volume: u8, global: u8) -> Channel
 }
 
 // A cell's instrument, note and volume; its command and info are the ones in force.
-pub fn play_cell(c: Channel, cell: Cell, samples: &[u8], amiga: bool, global: u8) -> Played
+pub fn play_cell(
+    c: Channel,
+    cell: Cell,
+    samples: &[u8],
+    table: &[u32],
+    amiga: bool,
+    global: u8,
+) -> Played
+    requires { ⌜ now table ≡ periods ⌝ }
     ensures { λ r. ⌜ r ≡ playCell c cell (now (samples .entry)) amiga global ⌝ }
 {
     let instrument = choose(cell.instrument == 0, c.instrument, cell.instrument);
     let named = sample_of(samples, instrument);
     let d = load_from(c, cell.instrument, named, global);
-    let e = note_column(d, cell, named, amiga);
+    let e = note_column(d, cell, named, table, amiga);
     let noted = e.channel;
     let channel = volume_column(noted, cell.volume, global);
     Played {

@@ -3,6 +3,7 @@ ghost use mathlib.Core.Path.{_≡_};
 ghost use Prim.Native.Nat.{_+_, _<_, _≤_, _^_};
 ghost use lib.ListN.{length};
 ghost use Rattle.laws.specs.Masks.{bitAt};
+ghost use Rattle.pitch.specs.Periods.{periods};
 ghost use Rattle.channel.specs.Row.{putsOff, putOff, heldBack, withInfo, delivered, relatched, channelEntered};
 use crate::commands::act;
 use crate::memory::arm;
@@ -56,7 +57,8 @@ fn hold_back(c: Channel, cell: Cell) -> Channel
 }
 
 // The cell is played, put off, or both.
-fn deliver(c: Channel, cell: Cell, samples: &[u8], amiga: bool, global: u8) -> Played
+fn deliver(c: Channel, cell: Cell, samples: &[u8], table: &[u32], amiga: bool, global: u8) -> Played
+    requires { ⌜ now table ≡ periods ⌝ }
     ensures { λ r. ⌜ r ≡ delivered c cell (now (samples .entry)) amiga global ⌝ }
 {
     let in_force = with_info(cell, c.info);
@@ -67,7 +69,7 @@ fn deliver(c: Channel, cell: Cell, samples: &[u8], amiga: bool, global: u8) -> P
             struck: false,
         };
     }
-    play_cell(channel, in_force, samples, amiga, global)
+    play_cell(channel, in_force, samples, table, amiga, global)
 }
 
 // The voice latches the global volume if the volume is not the one before the row.
@@ -88,9 +90,11 @@ pub fn enter_channel(
     cell: Cell,
     s_info: u8,
     samples: &[u8],
+    table: &[u32],
     w: Switches,
     global: u8,
 ) -> Played
+    requires { ⌜ now table ≡ periods ⌝ }
     ensures { λ r. ⌜ r ≡ channelEntered c cell «s_info» (now (samples .entry)) w global ⌝ }
 {
     let mut memory = c.effect_memory;
@@ -98,9 +102,9 @@ pub fn enter_channel(
         memory[memory_slot(cell.command)] = cell.info;
     }
     let armed = arm(c, cell, s_info);
-    let e = deliver(armed, cell, samples, w.amiga_limits, global);
+    let e = deliver(armed, cell, samples, table, w.amiga_limits, global);
     let delivered = e.channel;
-    let mut channel = relatch(act(delivered, w), c.volume, global);
+    let mut channel = relatch(act(delivered, table, w), c.volume, global);
     channel.effect_memory = memory;
     Played {
         channel,

@@ -3,6 +3,7 @@ ghost use mathlib.Core.Path.{_≡_};
 ghost use Prim.Native.Nat.{_<_, max};
 ghost use lib.Dec.{T};
 ghost use lib.Ieee.{le};
+ghost use Rattle.pitch.specs.Periods.{periods};
 ghost use Rattle.pitch.specs.Frequency.{narrowed, least, most, periodAt, frequencyOf, noteFrequency};
 use crate::periods::note_number;
 use crate::periods::period;
@@ -25,11 +26,11 @@ fn at_least_one(c5: u32) -> u32
 }
 
 // The period of note number n at a c5 speed.
-fn period_at(n: usize, c5: u32) -> u32
-    requires { ⌜ n < 108 ⌝ }
+fn period_at(n: usize, c5: u32, table: &[u32]) -> u32
+    requires { ⌜ n < 108 ⌝ ∗ ⌜ now table ≡ periods ⌝ }
     ensures { λ r. ⌜ r ≡ periodAt n c5 ⌝ }
 {
-    8363 * period(n) / at_least_one(c5)
+    8363 * period(n, table) / at_least_one(c5)
 }
 
 fn frequency_of(period: u32) -> f32
@@ -43,8 +44,9 @@ fn frequency_of(period: u32) -> f32
 }
 
 // The frequency of a note byte at a c5 speed.
-pub fn note_to_frequency(note: u8, c5: u32) -> f32
+pub fn note_to_frequency(note: u8, c5: u32, table: &[u32]) -> f32
+    requires { ⌜ now table ≡ periods ⌝ }
     ensures { λ r. ⌜ r ≡ noteFrequency note c5 ⌝ }
 {
-    frequency_of(period_at(note_number(note), c5))
+    frequency_of(period_at(note_number(note), c5, table))
 }

@@ -1,7 +1,7 @@
 // The period of a note.
 ghost use mathlib.Core.Path.{_≡_};
 ghost use Prim.Native.Nat.{_<_};
-ghost use Rattle.pitch.specs.Periods.{periodOf, noteNumber};
+ghost use Rattle.pitch.specs.Periods.{periods, periodOf, noteNumber};
 
 const PERIODS: [u32; 108] = [
     27392,
@@ -114,12 +114,19 @@ const PERIODS: [u32; 108] = [
     56,
 ];
 
+// The 108 periods, to be lent. An array is built where it is named: a loop names it once, before it starts.
+pub fn period_table() -> [u32; 108]
+    ensures { λ r. ⌜ r ≡ periods ⌝ }
+{
+    PERIODS
+}
+
 // The period of note number n.
-pub fn period(n: usize) -> u32
-    requires { ⌜ n < 108 ⌝ }
+pub fn period(n: usize, table: &[u32]) -> u32
+    requires { ⌜ n < 108 ⌝ ∗ ⌜ now table ≡ periods ⌝ }
     ensures { λ r. ⌜ r ≡ periodOf n ⌝ }
 {
-    PERIODS[n]
+    table[n]
 }
 
 // A note byte's number.

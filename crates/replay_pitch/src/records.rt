@@ -1,6 +1,7 @@
 // The records, one by one.
 ghost use mathlib.Core.Path.{_≡_};
 ghost use lib.ListN.{length};
+ghost use Rattle.pitch.specs.Periods.{periods};
 use crate::input;
 use crate::input::read_exact;
 use crate::same::same_finetune;
@@ -9,13 +10,14 @@ use crate::same::same_note;
 use crate::same::same_offset;
 use crate::same::same_slide;
 use crate::tally;
+use pitch::periods::period_table;
 use tune::numbers::u32_at;
 
-fn compare(bytes: &[u8], counts: &mut [u64])
-    requires { ⌜ length (now bytes) ≡ 32 ⌝ }
+fn compare(bytes: &[u8], table: &[u32], counts: &mut [u64])
+    requires { ⌜ length (now bytes) ≡ 32 ⌝ ∗ ⌜ now table ≡ periods ⌝ }
 {
     match bytes[0] {
-        0 => tally::compared(counts, tally::NOTES, same_note(bytes)),
+        0 => tally::compared(counts, tally::NOTES, same_note(bytes, table)),
         1 => tally::compared(counts, tally::OFFSETS, same_offset(bytes)),
         2 => tally::compared(counts, tally::LIMITS, same_limits(bytes)),
         3 => tally::compared(counts, tally::SLIDES, same_slide(bytes)),
@@ -26,6 +28,7 @@ fn compare(bytes: &[u8], counts: &mut [u64])
 
 // A file that is cut short has no more records.
 fn compare_all(fd: i32, records: usize, counts: &mut [u64]) {
+    let table = period_table();
     let mut bytes = input::record_room();
     let mut n: usize = 0;
     while n < records {
@@ -33,7 +36,7 @@ fn compare_all(fd: i32, records: usize, counts: &mut [u64]) {
             tally::misread(counts, true);
             return;
         }
-        compare(&bytes, counts);
+        compare(&bytes, &table, counts);
         n += 1;
     }
 }

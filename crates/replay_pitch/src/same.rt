@@ -4,6 +4,7 @@ ghost use Prim.Native.Nat.{_+_, _%_, _≤_};
 ghost use lib.Dec.{T};
 ghost use lib.Ieee.{eq};
 ghost use lib.ListN.{length};
+ghost use Rattle.pitch.specs.Periods.{periods};
 use pitch::finetune::finetune;
 use pitch::frequency::note_to_frequency;
 use pitch::limits::clamp_amiga;
@@ -54,10 +55,13 @@ fn same_double(x: f64, answer: u64) -> bool {
     false
 }
 
-pub fn same_note(bytes: &[u8]) -> bool
-    requires { ⌜ length (now bytes) ≡ 32 ⌝ }
+pub fn same_note(bytes: &[u8], table: &[u32]) -> bool
+    requires { ⌜ length (now bytes) ≡ 32 ⌝ ∗ ⌜ now table ≡ periods ⌝ }
 {
-    same_single(note_to_frequency(bytes[1], u32_at(bytes, 4)), answer(bytes))
+    same_single(
+        note_to_frequency(bytes[1], u32_at(bytes, 4), table),
+        answer(bytes),
+    )
 }
 
 pub fn same_offset(bytes: &[u8]) -> bool

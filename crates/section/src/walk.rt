@@ -19,6 +19,7 @@ use channel::rest::is_quiet;
 use channel::row::enter_channel;
 use channel::state::Channel;
 use channel::state::Switches;
+use pitch::periods::period_table;
 use row_path::machine::Path;
 use row_path::machine::enter;
 use row_path::machine::leave;
@@ -74,6 +75,7 @@ fn walk(
     ensures answer { λ r. ⌜ r ≡ sectioned (gave (spec.walk (lent (now (orders .entry)) (now (cells .entry)) (now (samples .entry))) n s)) ⌝ }
     ensures written { λ _. ⌜ now (output .exit) ≡ outputAfter (now (output .entry)) (gave (spec.walk (lent (now (orders .entry)) (now (cells .entry)) (now (samples .entry))) n s)) ⌝ }
 {
+    let table = period_table();
     let mut path = s.path;
     let mut channels = s.channels;
     let mut global = s.global_volume;
@@ -103,7 +105,7 @@ fn walk(
                 i += 1;
             } else {
                 let c = channels[i];
-                let played = enter_channel(c, cell, infos[i], samples, s.switches, global);
+                let played = enter_channel(c, cell, infos[i], samples, &table, s.switches, global);
                 let d = played.channel;
                 put_channel(output, at + 24 + i * 16, d);
                 channels[i] = d;

@@ -14,7 +14,7 @@ use Rattle.channel.proofs.channels.enter_channels.Statement.{statement}
 use Rattle.channel.proofs.channels.enter_channels.Tie as tie
 
 abbrev Inv-loop : tie.InvT-loop
-Inv-loop row samples w global s-infos entered₀ strikes₀ waiting₀ i₀ entered strikes waiting i =
+Inv-loop row samples w global s-infos table entered₀ strikes₀ waiting₀ i₀ entered strikes waiting i =
     (i ≤ 32)
     × (length entered ≡ 32)
     × (strikes < 2 ^ i)
@@ -23,7 +23,10 @@ Inv-loop row samples w global s-infos entered₀ strikes₀ waiting₀ i₀ ente
     × (waiting ≡ volumeAfter row i global)
 
 abbrev μ-loop : tie.MeasureT-loop
-μ-loop row samples w global s-infos entered₀ strikes₀ waiting₀ i₀ entered strikes waiting i = 32 - i
+μ-loop row samples w global s-infos table entered₀ strikes₀ waiting₀ i₀ entered strikes waiting i = 32 - i
+
+period-table-requires : tie.Need-period-table-requires Inv-loop μ-loop
+period-table-requires c κs = search needs
 
 loop-holds : tie.Need-loop-holds Inv-loop μ-loop
 loop-holds c = (
@@ -46,6 +49,9 @@ array-copy-out-c c = search needs
 
 array-read-enter-channel : tie.Need-array-read-enter-channel Inv-loop μ-loop
 array-read-enter-channel c = search needs
+
+slice-aggregate-enter-channel : tie.Need-slice-aggregate-enter-channel Inv-loop μ-loop
+slice-aggregate-enter-channel c = search needs
 
 enter-channel-requires : tie.Need-enter-channel-requires Inv-loop μ-loop
 enter-channel-requires c κs = search needs
@@ -71,9 +77,9 @@ loop-less c = search needs
 loop-again : tie.Need-loop-again Inv-loop μ-loop
 unfolding enteredAt
 loop-again c =
-    let l = c .before .before .before .before .before .before .before .loop in
+    let l = c .before .before .before .before .before .before .before .before .loop in
     let e = c .before .before .before .enter-channel .ensures in
-    let k = c .before .before .before .before .before .cell-of .ensures in
+    let k = c .before .before .before .before .before .before .cell-of .ensures in
     let h : l .i < length (l .entered) = omega arith in (
       omega arith,
       simp length-set (l .inv .1),
@@ -97,11 +103,13 @@ enter-channels-spec =
     (tie.spec
     Inv-loop
     μ-loop
+    period-table-requires
     loop-holds
     cell-of-requires
     mul-c
     array-copy-out-c
     array-read-enter-channel
+    slice-aggregate-enter-channel
     enter-channel-requires
     mul-entered
     array-set-from-entered

@@ -23,7 +23,7 @@ is-note-delay-requires c κs = search needs
 
 returns : tie.Need-returns
 returns c =
-    let a = c .before .before .before .before .before .before .args in
+    let a = c .before .before .before .before .before .before .before .args in
     let late = ap (λ (p : Bool). p && not (eqb (a .cell .info) 0)) (sym (c .before .before .is-note-delay .ensures)) ∙ c .if1 .taken in
     ap unstruck (c .before .before .before .hold-back .ensures) ∙ put-off-alone (a .c) (a .cell) (now (a .samples)) (a .amiga) (a .global) late
 
@@ -32,7 +32,7 @@ play-cell-requires c κs = search needs
 
 returns-2 : tie.Need-returns-2
 returns-2 c =
-    let a = c .before .before .before .before .before .before .before .args in
+    let a = c .before .before .before .before .before .before .before .before .args in
     let late = ap (λ (p : Bool). p && not (eqb (a .cell .info) 0)) (sym (c .before .before .before .is-note-delay .ensures)) ∙ c .before .if1 .left in
     c .play-cell .ensures
     ∙ ap (λ (d : Channel). playCell d (c .before .before .before .before .before .with-info .result) (now (a .samples)) (a .amiga) (a .global)) (c .before .before .before .before .hold-back .ensures)

@@ -20,7 +20,7 @@ memory-slot-requires c κs = search needs
 
 array-write-memory : tie.Need-array-write-memory
 array-write-memory c =
-    let h = slot-below (c .before .before .before .before .before .args .cell .command) (and-true _ _ (sym (c .before .before .stores .ensures) ∙ c .before .if1 .taken) .0) in
+    let h = slot-below (c .before .before .before .before .before .before .args .cell .command) (and-true _ _ (sym (c .before .before .stores .ensures) ∙ c .before .if1 .taken) .0) in
     omega (arith, h, c .memory-slot .ensures)
 
 arm-requires : tie.Need-arm-requires
@@ -36,7 +36,7 @@ relatch-requires : tie.Need-relatch-requires
 relatch-requires c κs = search needs
 
 -- the memory where the two ways meet
-memory-stored : (c : tie.Joined1) → let a = c .before .before .before .before .args in c .if1 .memory ≡ stored (a .c .«effect_memory») (a .cell .command) (a .cell .info)
+memory-stored : (c : tie.Joined1) → let a = c .before .before .before .before .before .args in c .if1 .memory ≡ stored (a .c .«effect_memory») (a .cell .command) (a .cell .info)
 unfolding stored
 memory-stored c =
     ⊎-elim
@@ -48,7 +48,7 @@ returns : tie.Need-returns
 unfolding finished withMemory
 returns c =
     let j = c .before .before .before .before .before in
-    let a = j .before .before .before .before .args in
+    let a = j .before .before .before .before .before .args in
     simp (← stored-last (a .c) (a .cell) (a .s-info) (a .samples .now) (a .w) (a .global), ← memory-stored j, ← c .before .before .before .before .arm .ensures, ← c .before .before .before .deliver .ensures, ← c .before .act .ensures, ← c .relatch .ensures)
 
 pub enter-channel-spec : {M : Type 1} → statement M

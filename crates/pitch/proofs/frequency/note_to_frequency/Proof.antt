@@ -12,7 +12,7 @@ period-at-requires : tie.Need-period-at-requires
 period-at-requires c κs = search needs
 
 frequency-of-requires : tie.Need-frequency-of-requires
-frequency-of-requires c κs = rw (c .period-at .ensures) (period-small (c .before .note-number .result) (c .before .before .args .c5) (c .before .note-number .ensures .1))
+frequency-of-requires c κs = rw (c .period-at .ensures) (period-small (c .before .note-number .result) (c .before .before .before .args .c5) (c .before .note-number .ensures .1))
 
 returns : tie.Need-returns
 unfolding noteFrequency

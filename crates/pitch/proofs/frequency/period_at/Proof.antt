@@ -11,7 +11,7 @@ period-requires c κs = search needs
 
 mul-result : tie.Need-mul-result
 mul-result c =
-    let most : c .period .result ≤ 27392 = rw (c .period .ensures) (period-most (c .before .args .n) (c .before .pre)) in
+    let most : c .period .result ≤ 27392 = rw (c .period .ensures) (period-most (c .before .before .args .n) (c .before .before .pre .0)) in
     search (needs, most)
 
 at-least-one-requires : tie.Need-at-least-one-requires

@@ -8,12 +8,12 @@ use Rattle.pitch.proofs.periods.period.Tie as tie
 mul-result : tie.Need-mul-result
 mul-result c = search needs
 
-array-read-result : tie.Need-array-read-result
-array-read-result c = search needs
+shared-slice-read-result : tie.Need-shared-slice-read-result
+shared-slice-read-result c = rw (c .before .pre .1) (c .before .pre .0)
 
 returns : tie.Need-returns
 unfolding periodOf
-returns c = refl
+returns c = rw (c .before .pre .1) refl
 
 pub period-spec : {M : Type 1} → statement M
-period-spec = tie.close (tie.spec mul-result array-read-result returns)
+period-spec = tie.close (tie.spec mul-result shared-slice-read-result returns)

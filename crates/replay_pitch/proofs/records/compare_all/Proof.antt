@@ -7,10 +7,13 @@ use Rattle.replay_pitch.proofs.records.compare_all.Statement.{statement
 use Rattle.replay_pitch.proofs.records.compare_all.Tie as tie
 
 abbrev Inv-loop : tie.InvT-loop
-Inv-loop fd records counts₀ bytes₀ n₀ counts bytes n = (n ≤ records) × (length counts ≡ length counts₀) × (length bytes ≡ 32)
+Inv-loop fd records counts₀ table bytes₀ n₀ counts bytes n = (n ≤ records) × (length counts ≡ length counts₀) × (length bytes ≡ 32)
 
 abbrev μ-loop : tie.MeasureT-loop
-μ-loop fd records counts₀ bytes₀ n₀ counts bytes n = records - n
+μ-loop fd records counts₀ table bytes₀ n₀ counts bytes n = records - n
+
+period-table-requires : tie.Need-period-table-requires Inv-loop μ-loop
+period-table-requires c κs = search needs
 
 record-room-requires : tie.Need-record-room-requires Inv-loop μ-loop
 record-room-requires c κs = search needs
@@ -36,6 +39,9 @@ returns c = search needs
 slice-aggregate-compare : tie.Need-slice-aggregate-compare Inv-loop μ-loop
 slice-aggregate-compare c = search needs
 
+slice-aggregate-compare-2 : tie.Need-slice-aggregate-compare-2 Inv-loop μ-loop
+slice-aggregate-compare-2 c = search needs
+
 compare-requires : tie.Need-compare-requires Inv-loop μ-loop
 compare-requires c κs = search needs
 
@@ -60,6 +66,7 @@ compare-all-spec =
     (tie.spec
     Inv-loop
     μ-loop
+    period-table-requires
     record-room-requires
     loop-holds
     slice-aggregate-read-exact
@@ -68,6 +75,7 @@ compare-all-spec =
     same-length
     returns
     slice-aggregate-compare
+    slice-aggregate-compare-2
     compare-requires
     add-n
     loop-less

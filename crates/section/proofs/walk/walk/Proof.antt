@@ -1,5 +1,6 @@
 -- `section::walk::walk` meets its contract. The laws of the two loops are in Rounds and Visiting. Assumes nothing.
 use Prim.Native.Nat.{_-_, _<_}
+use mathlib.Core.Path.{sym, ap}
 use native.Mathlib.Omega.{arith}
 use borrow.Author.Needs.{needs}
 use lib.ListN.{length, length-map}
@@ -11,25 +12,28 @@ use Rattle.section.proofs.walk.walk.Statement.{statement}
 use Rattle.section.proofs.walk.walk.Tie as tie
 
 abbrev Inv-loop2 : tie.InvT-loop2
-Inv-loop2 orders cells samples s n output₀ channels₀ global rows e here at row infos strikes₀ waiting₀ i₀ output channels strikes waiting i =
+Inv-loop2 orders cells samples s n output₀ table channels₀ global rows e here at row infos strikes₀ waiting₀ i₀ output channels strikes waiting i =
     Visiting (here .hold .held) row infos samples (s .switches) global at output₀ channels₀ output channels strikes waiting i
 
 abbrev μ-loop2 : tie.MeasureT-loop2
-μ-loop2 orders cells samples s n output₀ channels₀ global rows e here at row infos strikes₀ waiting₀ i₀ output channels strikes waiting i =
+μ-loop2 orders cells samples s n output₀ table channels₀ global rows e here at row infos strikes₀ waiting₀ i₀ output channels strikes waiting i =
     32 - i
 
 abbrev Inv-loop : tie.InvT-loop
-Inv-loop orders cells samples s n output₀ path₀ channels₀ global₀ rows₀ output path channels global rows =
+Inv-loop orders cells samples s n output₀ table path₀ channels₀ global₀ rows₀ output path channels global rows =
     Round (lent orders cells samples) n output₀ s output (record { path = path; channels = channels; «global_volume» = global; switches = s .switches }) rows
 
 abbrev μ-loop : tie.MeasureT-loop
-μ-loop orders cells samples s n output₀ path₀ channels₀ global₀ rows₀ output path channels global rows =
+μ-loop orders cells samples s n output₀ table path₀ channels₀ global₀ rows₀ output path channels global rows =
     n - rows
+
+period-table-requires : tie.Need-period-table-requires Inv-loop2 μ-loop2 Inv-loop μ-loop
+period-table-requires c κs = search needs
 
 loop-holds : tie.Need-loop-holds Inv-loop2 μ-loop2 Inv-loop μ-loop
 loop-holds c =
-    round-start (ready _ _ _ _ (c .before .before .before .before .before .before .pre))
-    (simp length-map at (c .before .before .before .before .before .before .good .1 .1 .1 .0 .1 .1 .1 .0 .1 .0 .1)) (search needs)
+    round-start (ready _ _ _ _ (c .before .before .before .before .before .before .before .pre))
+    (simp length-map at (c .before .before .before .before .before .before .before .good .1 .1 .1 .0 .1 .1 .1 .0 .1 .0 .1)) (search needs)
 
 given-requires : tie.Need-given-requires Inv-loop2 μ-loop2 Inv-loop μ-loop
 given-requires c κs = search needs
@@ -61,7 +65,7 @@ mul-at : tie.Need-mul-at Inv-loop2 μ-loop2 Inv-loop μ-loop
 mul-at c = search needs
 
 -- what the row that is entered has
-entry : (c : tie.Else2 Inv-loop2 μ-loop2 Inv-loop μ-loop) → let a = c .before .before .before .before .before .before .before .before .before .before .before .before .args in Entry (lent (a .orders .now) (a .cells .now) (a .samples .now)) (c .before .before .enter .result)
+entry : (c : tie.Else2 Inv-loop2 μ-loop2 Inv-loop μ-loop) → let a = c .before .before .before .before .before .before .before .before .before .before .before .before .before .args in Entry (lent (a .orders .now) (a .cells .now) (a .samples .now)) (c .before .before .enter .result)
 entry c = round-entry (c .before .before .before .before .before .loop .inv) _ (c .before .before .enter .ensures) (c .if2 .left)
 
 row-cells-requires : tie.Need-row-cells-requires Inv-loop2 μ-loop2 Inv-loop μ-loop
@@ -128,12 +132,15 @@ array-copy-out-c-2 c = search needs
 array-read-enter-channel : tie.Need-array-read-enter-channel Inv-loop2 μ-loop2 Inv-loop μ-loop
 array-read-enter-channel c = search needs
 
+slice-aggregate-enter-channel : tie.Need-slice-aggregate-enter-channel Inv-loop2 μ-loop2 Inv-loop μ-loop
+slice-aggregate-enter-channel c = sym (ap length (c .before .before .before .before .before .before .before .before .before .before .before .before .before .before .before .before .before .before .period-table .ensures))
+
 enter-channel-requires : tie.Need-enter-channel-requires Inv-loop2 μ-loop2 Inv-loop μ-loop
-enter-channel-requires c κs = search needs
+enter-channel-requires c κs = c .before .before .before .before .before .before .before .before .before .before .before .before .before .before .before .before .before .before .period-table .ensures
 
 add-put-channel-3 : tie.Need-add-put-channel-3 Inv-loop2 μ-loop2 Inv-loop μ-loop
 add-put-channel-3 c =
-    let v = c .before .before .before .before .before .before .before .before .before .before .before .before .before .before .before .before .before .loop .inv in
+    let v = c .before .before .before .before .before .before .before .before .before .before .before .before .before .before .before .before .before .before .loop .inv in
     omega (arith, v .some, v .few)
 
 mul-put-channel-2 : tie.Need-mul-put-channel-2 Inv-loop2 μ-loop2 Inv-loop μ-loop
@@ -141,15 +148,15 @@ mul-put-channel-2 c = search needs
 
 add-put-channel-4 : tie.Need-add-put-channel-4 Inv-loop2 μ-loop2 Inv-loop μ-loop
 add-put-channel-4 c =
-    let t = c .before .before .before .before .before .before .before .before in
+    let t = c .before .before .before .before .before .before .before .before .before in
     let v = t .before .before .before .before .before .before .before .before .before .loop .inv in
     omega (arith, v .some, v .few, t .loop2-test .taken)
 
 put-channel-requires-2 : tie.Need-put-channel-requires-2 Inv-loop2 μ-loop2 Inv-loop μ-loop
 put-channel-requires-2 c κs =
-    let t = c .before .before .before .before .before .before .before in
+    let t = c .before .before .before .before .before .before .before .before in
     let v = t .before .before .loop2 .inv in
-    let h = enter-number v _ _ _ _ (t .before .loop2-test .taken) (t .cell-of .ensures) (c .before .before .before .before .before .skips .ensures) (c .before .before .before .before .if3 .left) (c .before .before .enter-channel .ensures) in
+    let h = enter-number v _ _ _ _ (t .before .loop2-test .taken) (t .cell-of .ensures) (c .before .before .before .before .before .before .skips .ensures) (c .before .before .before .before .before .if3 .left) (c .before .before .enter-channel .ensures) in
     (omega (arith, v .room, visit-room v, t .before .loop2-test .taken), h .frequency, h .target)
 
 mul-channels : tie.Need-mul-channels Inv-loop2 μ-loop2 Inv-loop μ-loop
@@ -173,8 +180,8 @@ loop2-less-2 c = search needs
 loop2-again-2 : tie.Need-loop2-again-2 Inv-loop2 μ-loop2 Inv-loop μ-loop
 loop2-again-2 c =
     let p = c .before .before .before .before .before .before .before in
-    let t = p .before .before .before .before .before in
-    visit-enter (t .before .before .loop2 .inv) _ _ _ _ _ _ _ (t .before .loop2-test .taken) (t .cell-of .ensures) (p .before .before .before .skips .ensures) (p .before .before .if3 .left) (p .enter-channel .ensures)
+    let t = p .before .before .before .before .before .before in
+    visit-enter (t .before .before .loop2 .inv) _ _ _ _ _ _ _ (t .before .loop2-test .taken) (t .cell-of .ensures) (p .before .before .before .before .skips .ensures) (p .before .before .before .if3 .left) (p .enter-channel .ensures)
     (c .before .before .before .before .put-channel2 .ensures) (c .before .mark .ensures) (c .hear-volume .ensures)
 
 put-head-requires : tie.Need-put-head-requires Inv-loop2 μ-loop2 Inv-loop μ-loop
@@ -224,6 +231,7 @@ walk-spec =
     μ-loop2
     Inv-loop
     μ-loop
+    period-table-requires
     loop-holds
     given-requires
     same-length
@@ -252,6 +260,7 @@ walk-spec =
     mul-c-2
     array-copy-out-c-2
     array-read-enter-channel
+    slice-aggregate-enter-channel
     enter-channel-requires
     add-put-channel-3
     mul-put-channel-2
