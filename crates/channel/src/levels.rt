@@ -1,6 +1,5 @@
 // Volumes and pans.
 ghost use mathlib.Core.Path.{_≡_};
-ghost use Prim.Native.Nat.{min};
 ghost use Rattle.laws.specs.Choice.{pick};
 ghost use Rattle.channel.specs.Levels.{peak, loadPeak, raised, lowered, fastSlid, volumeSlid, stereoPan, setPan};
 
