@@ -4,7 +4,7 @@ ghost use Prim.Native.Nat.{_+_, _<_, _^_};
 ghost use lib.ListN.{length};
 ghost use Rattle.laws.specs.Choice.{pick};
 ghost use Rattle.laws.specs.Masks.{bitAt};
-ghost use Rattle.channel.specs.Channels.{waits, enteredAt, rowEntered};
+ghost use Rattle.channel.specs.Channels.{waits, rowEntered};
 use crate::row::enter_channel;
 use crate::state::Channel;
 use crate::state::Played;

@@ -2,8 +2,6 @@
 ghost use mathlib.Core.Path.{_≡_};
 ghost use mathlib.Core.Bool.{_&&_, not};
 ghost use lib.Dec.{eqb};
-ghost use Prim.Native.Nat.{_<_, _≤_};
-ghost use lib.ListN.{length};
 ghost use Rattle.channel.specs.Memory.{resumes, hasMemory, slotOf, remembered, recalled, armed};
 use crate::levels::choose;
 use crate::state::Channel;

@@ -1,6 +1,5 @@
 // Playing a cell's instrument, note and volume.
 ghost use mathlib.Core.Path.{_≡_};
-ghost use lib.ListN.{length};
 ghost use Rattle.pitch.specs.Periods.{periods};
 ghost use Rattle.channel.specs.Play.{loaded, cut, aimed, startOf, voiceOf, started, slides, noteOn, slidBack, noted, volumed, playCell};
 use crate::levels::choose;

@@ -1,8 +1,5 @@
 // A channel's half of the Rust's `enter_row`, and the 32 of them.
 ghost use mathlib.Core.Path.{_≡_};
-ghost use Prim.Native.Nat.{_+_, _<_, _≤_, _^_};
-ghost use lib.ListN.{length};
-ghost use Rattle.laws.specs.Masks.{bitAt};
 ghost use Rattle.pitch.specs.Periods.{periods};
 ghost use Rattle.channel.specs.Row.{putsOff, putOff, heldBack, withInfo, delivered, relatched, channelEntered};
 use crate::commands::act;

@@ -2,7 +2,7 @@
 ghost use mathlib.Core.Path.{_≡_};
 ghost use Prim.Native.Nat.{_+_, _*_, _^_, _≤_, _<_};
 ghost use lib.ListN.{length};
-ghost use Rattle.row_path.specs.Enter.{endedAt, arrived, paced, delayed, settled, loopedBy, acted, visited, enteredAt, entered};
+ghost use Rattle.row_path.specs.Enter.{endedAt, arrived, paced, delayed, settled, loopedBy, acted, visited, entered};
 ghost use Rattle.row_path.specs.Leave.{lengthOf, ticked, placeAfter, heldOn, goneOn, left};
 ghost use Rattle.row_path.specs.Leave as spec;
 use crate::loops::Jump;

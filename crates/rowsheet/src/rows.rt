@@ -1,6 +1,6 @@
 // The rows of a tune, section by section.
 ghost use mathlib.Core.Path.{_≡_};
-ghost use Prim.Native.Nat.{_+_, _*_, _≤_, _<_};
+ghost use Prim.Native.Nat.{_*_, _≤_};
 ghost use lib.ListN.{length};
 use libc::STDOUT_FILENO;
 use section::open::open;

@@ -1,9 +1,9 @@
 // The header and the lists behind it: counts, and rules 1 to 5.
 ghost use mathlib.Core.Path.{_≡_};
-ghost use Prim.Native.Nat.{_+_, _*_, _≤_, _<_};
-ghost use lib.ListN.{length, getD};
+ghost use Prim.Native.Nat.{_≤_, _<_};
+ghost use lib.ListN.{length};
 ghost use Rattle.s3m.specs.Layout.{countsOf, listsEnd};
-ghost use Rattle.s3m.specs.Refusals.{rule1, rule2, rule3, rule4, rule5, headerRule, measureRule};
+ghost use Rattle.s3m.specs.Refusals.{rule2, rule3, rule4, rule5, headerRule, measureRule};
 ghost use Rattle.s3m.specs.Answers.{measured, measuredNumber};
 use tune::numbers::u16_at;
 use tune::numbers::u32_at;

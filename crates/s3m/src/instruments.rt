@@ -1,9 +1,9 @@
 // Instruments as samples of 20 bytes, and rule 7.
 ghost use mathlib.Core.Path.{_≡_};
 ghost use Prim.Native.Nat.{_+_, _*_, _%_, _≤_, _<_};
-ghost use mathlib.Core.Bool.{true, false};
+ghost use mathlib.Core.Bool.{false};
 ghost use mathlib.Core.List.{_++_};
-ghost use lib.ListN.{length, drop};
+ghost use lib.ListN.{length};
 ghost use Rattle.s3m.specs.Instruments.{headerSample, instrumentSample, samplesOf, instrumentPast, instrumentsPast};
 use tune::numbers::u16_at;
 use tune::parts::copy_both;

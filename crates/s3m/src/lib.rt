@@ -5,9 +5,9 @@ pub mod opening;
 pub mod patterns;
 
 ghost use mathlib.Core.Path.{_≡_};
-ghost use Prim.Native.Nat.{_+_, _*_, _≤_, _<_};
+ghost use Prim.Native.Nat.{_+_, _≤_};
 ghost use lib.ListN.{length};
-ghost use Rattle.s3m.specs.Layout.{countsOf, bytesAt};
+ghost use Rattle.s3m.specs.Layout.{bytesAt};
 ghost use Rattle.s3m.specs.Refusals.{rule6, measureRule, tablesRule, readRule};
 ghost use Rattle.s3m.specs.Answers.{refusalOf, reading, readNumber, ordersAfter, samplesAfter, cellsAfter};
 use header::Counts;

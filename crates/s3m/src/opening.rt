@@ -1,6 +1,6 @@
 // The opening values of a file: flags, levels, channel settings and pans.
 ghost use mathlib.Core.Path.{_≡_};
-ghost use Prim.Native.Nat.{_+_, _%_, _<_, _≤_};
+ghost use Prim.Native.Nat.{_%_, _<_, _≤_};
 ghost use lib.ListN.{length};
 ghost use Rattle.laws.specs.Entries.{tabulate};
 ghost use Rattle.s3m.specs.Layout.{countsOf, panList};

@@ -1,7 +1,6 @@
 // Open.
 ghost use mathlib.Core.Path.{_≡_};
 ghost use mathlib.Core.List.{map};
-ghost use lib.ListN.{length};
 ghost use Rattle.channel.specs.Opening.{openedChannel};
 ghost use Rattle.section.specs.Tables.{lent};
 ghost use Rattle.section.specs.Typed.{ByteTables, ShapedOpening};

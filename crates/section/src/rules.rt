@@ -1,7 +1,6 @@
 // Rules 9, 11 and 12.
 ghost use mathlib.Core.Path.{_≡_};
 ghost use mathlib.Core.Bool.{not};
-ghost use lib.ListN.{length};
 ghost use Rattle.laws.specs.Entries.{every};
 ghost use Rattle.section.specs.Tables.{lent};
 ghost use Rattle.section.specs.Section.{pathBroken, channelBroken, stateRule, roomRule, sectionRule};

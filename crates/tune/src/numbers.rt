@@ -1,6 +1,6 @@
 // Numbers of several bytes, the low byte first, and the two halves of a byte.
 ghost use mathlib.Core.Path.{_≡_};
-ghost use Prim.Native.Nat.{_+_, _*_, _/_, _%_, _≤_, _<_};
+ghost use Prim.Native.Nat.{_+_, _/_, _%_, _≤_, _<_};
 ghost use lib.ListN.{length};
 ghost use Rattle.tune.specs.Numbers.{littleAt};
 

@@ -1,6 +1,6 @@
 // A sample by value, and the sample that an instrument number names.
 ghost use mathlib.Core.Path.{_≡_};
-ghost use Prim.Native.Nat.{_+_, _*_, _≤_};
+ghost use Prim.Native.Nat.{_+_, _≤_};
 ghost use lib.ListN.{length};
 ghost use Rattle.tune.specs.Samples.{sampleAt, sampleOf, isAdlib};
 use crate::numbers::u32_at;

@@ -1,6 +1,5 @@
 // Rule 9: the sizes of the lent tables.
 ghost use mathlib.Core.Path.{_≡_};
-ghost use lib.ListN.{length};
 ghost use Rattle.tune.specs.Sizes.{ordersFit, cellsFit, samplesFit, rule9};
 
 fn orders_fit(n: usize) -> bool
