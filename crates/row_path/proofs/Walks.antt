@@ -81,6 +81,14 @@ module _ (orders cells : List ℕ) where
       (λ _. omega arith) (λ _. omega arith)
       (λ _. omega (arith, rows-lesser m n (left orders (entered orders cells p)) (omega arith)))
 
+  -- fewer rows than asked for come only at an end
+  pub rows-short : (n : ℕ) (p : Path) → rowsLeft orders cells n p < n → pathWalk orders cells n p .path .ended ≡ true
+  unfolding pathWalk onward more rowsLeft
+  rows-short zero p h = absurd (omega (arith, h))
+  rows-short (suc n) p h =
+      turn-kinds (λ (x : Turn). length (onward x (pathWalk orders cells n) .rows) < suc n → onward x (pathWalk orders cells n) .path .ended ≡ true) p
+      (λ d _. d) (λ d _. d) (λ _ f. rows-short n (left orders (entered orders cells p)) (omega (arith, f))) h
+
   -- row k of a walk is the one entered from where a walk of k rows stops, and it is not ended
   pub rows-entered : (n k : ℕ) (p : Path) (d : Entered) → k < rowsLeft orders cells n p → (getD (pathWalk orders cells n p .rows) k d ≡ entered orders cells (pathWalk orders cells k p .path)) × (getD (pathWalk orders cells n p .rows) k d .path .ended ≡ false)
   unfolding pathWalk rowsLeft onward more
