@@ -1,9 +1,10 @@
 -- The calls' answers and bytes, from what the functions below them give. Assumes nothing.
-use Prim.Native.Nat.{ℕ}
+use Prim.Native.Nat.{ℕ, zero, suc}
 use mathlib.Core.Path.{_≡_, refl, sym, ap, _∙_}
 use mathlib.Core.Bool.{Bool, true, false}
 use mathlib.Core.List.{List}
 use native.Mathlib.Nat.{zero-add}
+use native.Mathlib.Omega.{arith}
 use borrow.Author.Tests.{eq-eqb, ne-eqb}
 use lib.Dec.{eqb}
 use lib.ListN.{length}
@@ -19,7 +20,8 @@ use Rattle.s3m.specs.declared.header.Measured.the-variants.{Found, Refused}
 use Rattle.s3m.specs.declared.Reading.{Reading}
 use Rattle.section.specs.Tables.{Tables}
 use Rattle.section.specs.Open.{openRule, openOf, freshState}
-use Rattle.section.specs.Section.{sectionOf, sectioned, outputAfter}
+use Rattle.section.specs.Walk.{walk}
+use Rattle.section.specs.Section.{sectionRule, gave, answerBy, sectionOf, sectioned, outputAfter}
 use Rattle.section.specs.declared.state.State.{State}
 use Rattle.section.specs.declared.state.Opened.{Opened}
 use Rattle.section.specs.declared.state.Sectioned.{Sectioned}
@@ -109,6 +111,9 @@ module _ (t : Tables) (opening state : List ℕ) where
   unfolding stateOpened
   open-wrong e = (ap (λ (r : ℕ). answerOf r 0) (sym e), ap (λ (r : ℕ). pick (eqb r 0) (stateBytes (freshState (openingAt opening))) state) (sym e))
 
+  pub wrong-unfresh : (b : List ℕ) → openRefusal t opening state ≡ wrong → openRefusal t opening state ≡ 0 → stateOf b ≡ freshState (openingAt opening)
+  wrong-unfresh b e z = absurd (omega (arith, e, z))
+
   pub no-opening : (length opening ≡ 144 → ⊥) → openRefusal t opening state ≡ wrong
   unfolding openRefusal
   no-opening h = other-length (length opening) 144 _ wrong h
@@ -143,7 +148,23 @@ module _ (t : Tables) (opening state : List ℕ) where
     open-given z =
         (ap (λ (r : ℕ). answerOf r 0) (sym z ∙ refusal-is), ap stateBytes (fresh z) ∙ sym (same-length (openRefusal t opening state) 0 (stateBytes (freshState (openingAt opening))) state (sym refusal-is ∙ z)))
 
+    pub refused-unfresh : (b : List ℕ) → (g .refusal ≡ 0 → ⊥) → openRefusal t opening state ≡ 0 → stateOf b ≡ freshState (openingAt opening)
+    refused-unfresh b n z = absurd (n (refusal-is ∙ z))
+
+    -- the bytes say the fresh state
+    pub fresh-kept : (b : List ℕ) → g .refusal ≡ 0 → b ≡ stateBytes (g .state) → stateOf (stateBytes (g .state)) ≡ g .state → stateOf b ≡ freshState (openingAt opening)
+    fresh-kept b z e k = ap stateOf e ∙ k ∙ fresh z
+
 -- Section
+-- a refused call gives the state that it got
+refused-state : (t : Tables) (s : State) (n room : ℕ) → (sectioned (sectionOf t s n room) .refusal ≡ 0 → ⊥) → sectioned (sectionOf t s n room) .state ≡ s
+unfolding sectionOf answerBy gave sectioned
+refused-state t s n room = by-rule (sectionRule t s n room)
+  where
+    by-rule : (r : ℕ) → (sectioned (answerBy r s (walk t n s)) .refusal ≡ 0 → ⊥) → sectioned (answerBy r s (walk t n s)) .state ≡ s
+    by-rule zero h = absurd (h refl)
+    by-rule (suc r) h = refl
+
 nothing : (a : section.Answer) → (sectioned a .refusal ≡ 0 → ⊥) → 0 ≡ rowsAndEnded (sectioned a)
 unfolding sectioned
 nothing (section.Refused r s) h = refl
@@ -179,3 +200,13 @@ module _ (t : Tables) (state : List ℕ) (n : ℕ) (output : List ℕ) where
     pub section-given : g .refusal ≡ 0 → (rowsAndEnded g ≡ sectionAnswer t state n output) × (stateBytes (g .state) ≡ stateAfter t state n output) × (out ≡ recordsAfter t state n output)
     section-given z =
         (sym (zero-add (rowsAndEnded g)) ∙ ap (λ (r : ℕ). answerOf r (rowsAndEnded g)) (sym z) ∙ answer-is, sym (same-length (g .refusal) 0 (stateBytes (g .state)) state z) ∙ state-is, records-are)
+
+    -- the bytes say the state that Section gives
+    pub refused-kept : (g .refusal ≡ 0 → ⊥) → stateOf state ≡ sectionBy t state n output .state
+    refused-kept r =
+        sym es
+        ∙ sym (refused-state t s n (length output) (λ e. r (ap (λ (g : Sectioned). g .refusal) eg ∙ e)))
+        ∙ ap (λ (g : Sectioned). g .state) (sym eg ∙ by-bytes)
+
+    pub given-kept : (b : List ℕ) → b ≡ stateBytes (g .state) → stateOf (stateBytes (g .state)) ≡ g .state → stateOf b ≡ sectionBy t state n output .state
+    given-kept b e k = ap stateOf e ∙ k ∙ ap (λ (g : Sectioned). g .state) by-bytes

@@ -2,6 +2,8 @@ pub mod Answered
 pub mod ChannelKept
 pub mod ChannelRead
 pub mod Delays
+pub mod Given
+pub mod Joined
 pub mod Lengths
 pub mod Little
 pub mod Nans

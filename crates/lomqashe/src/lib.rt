@@ -13,8 +13,11 @@ ghost use lib.ListN.{length};
 ghost use Rattle.s3m.specs.Answers.{readNumber, ordersAfter, samplesAfter, cellsAfter};
 ghost use Rattle.section.specs.Tables.{lent};
 ghost use Rattle.section.specs.Records.{flag};
+ghost use Rattle.section.specs.Open.{freshState};
 ghost use Rattle.sheet.specs.Lines.{lineAnswer, lineOutput};
-ghost use Rattle.lomqashe.specs.Answers.{answerOf, countBytes, measureRefusal, countsAfter, readRefusal, openingBy, openingAfter, openRefusal, stateOpened, sectionAnswer, stateAfter, recordsAfter, recordAnswer, StrikesNumber};
+ghost use Rattle.lomqashe.specs.Openings.{openingAt};
+ghost use Rattle.lomqashe.specs.States.{stateOf};
+ghost use Rattle.lomqashe.specs.Answers.{answerOf, countBytes, measureRefusal, countsAfter, readRefusal, openingBy, openingAfter, openRefusal, stateOpened, sectionBy, sectionAnswer, stateAfter, recordsAfter, recordAnswer, StrikesNumber};
 use opening::opening_of;
 use opening::put_opening;
 use s3m::ReadAnswer;
@@ -145,6 +148,7 @@ pub extern "C" fn lomqashe_open(
 ) -> u32
     ensures answer { λ r. ⌜ r ≡ answerOf (openRefusal (lent (now (orders .entry)) (now (cells .entry)) (now (samples .entry))) (now (opening .entry)) (now (state .entry))) 0 ⌝ }
     ensures written { λ _. ⌜ now (state .exit) ≡ stateOpened (now (opening .entry)) (openRefusal (lent (now (orders .entry)) (now (cells .entry)) (now (samples .entry))) (now (opening .entry)) (now (state .entry))) (now (state .entry)) ⌝ }
+    ensures kept { λ _. ⌜ (openRefusal (lent (now (orders .entry)) (now (cells .entry)) (now (samples .entry))) (now (opening .entry)) (now (state .entry)) ≡ 0 → stateOf (now (state .exit)) ≡ freshState (openingAt (now (opening .entry)))) ⌝ }
 {
     if opening.len() != 144 {
         return WRONG;
@@ -181,6 +185,7 @@ pub extern "C" fn lomqashe_section(
 ) -> u32
     ensures answer { λ r. ⌜ r ≡ sectionAnswer (lent (now (orders .entry)) (now (cells .entry)) (now (samples .entry))) (now (state .entry)) n (now (output .entry)) ⌝ }
     ensures state { λ _. ⌜ now (state .exit) ≡ stateAfter (lent (now (orders .entry)) (now (cells .entry)) (now (samples .entry))) (now (state .entry)) n (now (output .entry)) ⌝ }
+    ensures kept { λ _. ⌜ (length (now (state .entry)) ≡ 2624 → stateOf (now (state .exit)) ≡ sectionBy (lent (now (orders .entry)) (now (cells .entry)) (now (samples .entry))) (now (state .entry)) n (now (output .entry)) .state) ⌝ }
     ensures records { λ _. ⌜ now (output .exit) ≡ recordsAfter (lent (now (orders .entry)) (now (cells .entry)) (now (samples .entry))) (now (state .entry)) n (now (output .entry)) ⌝ }
 {
     if state.len() != 2624 {

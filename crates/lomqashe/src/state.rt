@@ -108,9 +108,11 @@ fn put_head(part: &mut [u8], s: State)
     put_both(part, head, infos);
 }
 
+// The bytes of a state, from which it can be read again.
 pub fn put_state(state: &mut [u8], s: State)
     requires { ⌜ length (now state) ≡ 2624 ⌝ }
-    ensures { λ _. ⌜ now (state .exit) ≡ stateBytes s ⌝ }
+    ensures written { λ _. ⌜ now (state .exit) ≡ stateBytes s ⌝ }
+    ensures kept { λ _. ⌜ stateOf (stateBytes s) ≡ s ⌝ }
 {
     let channels = s.channels;
     put_head(&mut state[0..64], s);

@@ -33,7 +33,7 @@ each-entry F P one (x ∷ xs) (u ∷ us) h zero d l = one x (u ∷ []) (h .0)
 each-entry F P one (x ∷ xs) (u ∷ us) h (suc i) d l = each-entry F P one xs us (h .1) i d (omega arith)
 
 -- an array has n entries, each of which has what its type gives
-array-typed : (F : Field) (n : ℕ) (P : F .Value → Type 0) → ((x : F .Value) (vs : List Val) → shadow (F .row .own (F .into x) vs) → P x)
+pub array-typed : (F : Field) (n : ℕ) (P : F .Value → Type 0) → ((x : F .Value) (vs : List Val) → shadow (F .row .own (F .into x) vs) → P x)
     → (xs : List (F .Value)) (vs : List Val) → shadow (array-field F n .row .own (map (F .into) xs) vs) → (length xs ≡ n) × ((i : ℕ) (d : F .Value) → i < n → P (getD xs i d))
 array-typed F n P one xs vs h =
     let e : length xs ≡ n = sym (length-map xs (F .into)) ∙ h .1 .0 .1 in

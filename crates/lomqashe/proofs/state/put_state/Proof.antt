@@ -5,6 +5,8 @@ use mathlib.Core.Path.{refl, sym, ap, _∙_}
 use lib.ListN.{length}
 use Rattle.laws.proofs.Parts.{two-parts}
 use Rattle.lomqashe.specs.States.{stateBytes}
+use Rattle.lomqashe.proofs.StateKept.{state-kept}
+use Rattle.lomqashe.proofs.Given.{state-given}
 use Rattle.lomqashe.proofs.state.put_state.Statement.{statement}
 use Rattle.lomqashe.proofs.state.put_state.Tie as tie
 
@@ -37,7 +39,10 @@ same-length c = search needs
 
 returns : tie.Need-returns
 unfolding stateBytes
-returns c = two-parts (now (c .before .before .before .before .before .before .before .before .before .before .args .state)) 64 2560 (c .before .before .before .before .before .before .before .before .before .before .pre) (sym (ap length (c .before .before .before .before .before .before .put-head .ensures)) ∙ search needs) refl (c .before .before .before .before .before .before .put-head .ensures) (c .before .before .put-channels .ensures)
+returns c = (
+  two-parts (now (c .before .before .before .before .before .before .before .before .before .before .args .state)) 64 2560 (c .before .before .before .before .before .before .before .before .before .before .pre) (sym (ap length (c .before .before .before .before .before .before .put-head .ensures)) ∙ search needs) refl (c .before .before .before .before .before .before .put-head .ensures) (c .before .before .put-channels .ensures),
+  state-kept _ (state-given _ _ (c .before .before .before .before .before .before .before .before .before .before .good .1 .0)),
+)
 
 pub put-state-spec : {M : Type 1} → statement M
 put-state-spec =
