@@ -3,6 +3,8 @@ use mathlib.Core.Path.{_≡_, refl, sym}
 use mathlib.Core.Bool.{Bool, true, false, _&&_, _||_}
 use mathlib.Core.List.{List}
 use Prim.Native.Nat.{ℕ}
+use borrow.Author.Tests.{eqb-true, eqb-false}
+use lib.Dec.{eqb}
 use lib.ListN.{length}
 use Rattle.laws.specs.Choice.{pick}
 
@@ -48,3 +50,11 @@ and-true false d e = (e, cc)
 pub or-false : (b d : Bool) → (b || d) ≡ false → (b ≡ false) × (d ≡ false)
 or-false true d e = (e, cc)
 or-false false d e = (refl, e)
+
+-- j is n, or it is not
+pub here-or : {P : Type 0} (j n : ℕ) → (j ≡ n → P) → ((j ≡ n → ⊥) → P) → P
+here-or {P = P} j n f g = by (eqb j n) refl
+  where
+    by : (b : Bool) → eqb j n ≡ b → P
+    by true e = f (eqb-true j n e)
+    by false e = g (eqb-false j n e)

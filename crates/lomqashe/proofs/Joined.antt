@@ -5,7 +5,7 @@ use mathlib.Core.List.{List, _++_}
 use native.Mathlib.Omega.{arith}
 use lib.ListN.{length}
 use Rattle.section.specs.Tables.{Tables}
-use Rattle.section.specs.Walk.{Walked, walk}
+use Rattle.section.specs.Walk.{walk}
 use Rattle.section.specs.Section.{sectionRule, gave, answerBy, sectionOf, sectioned}
 use Rattle.section.specs.declared.state.State.{State}
 use Rattle.section.proofs.Walks.{walk-more}

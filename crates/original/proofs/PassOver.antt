@@ -25,7 +25,8 @@ use Rattle.channel.specs.declared.state.Channel.{Channel}
 use Rattle.original.specs.State.{Song, Locals}
 use Rattle.original.specs.Player.{anySample, anyChannel, anyCell, Tick, Pass, playChannel, channelTick, storeTurn, turnAt, pass, noLocals}
 use Rattle.original.specs.Map.{rustChannel, rustChannels, waiting}
-use Rattle.original.proofs.Lists.{here-or, mask-drop}
+use Rattle.laws.proofs.Picks.{here-or}
+use Rattle.original.proofs.Lists.{mask-drop}
 use Rattle.original.proofs.Prepare.{infoAfter}
 use Rattle.original.proofs.Play.{lookup, Fits}
 use Rattle.original.proofs.TickZero.{spoken}

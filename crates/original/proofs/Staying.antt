@@ -9,7 +9,7 @@ use lib.Dec.{eqb, ltb}
 use lib.ListN.{length, getD, set, length-set, List·getD-eq-default}
 use lib.Seq.{getD-set-same, getD-set-other}
 use Rattle.laws.specs.Entries.{every}
-use Rattle.laws.proofs.Picks.{choice, or-false}
+use Rattle.laws.proofs.Picks.{choice, or-false, here-or}
 use Rattle.laws.proofs.Rules.{kept}
 use Rattle.tune.specs.Cells.{rowCells, cellOf}
 use Rattle.tune.specs.Opening.{rateBroken}
@@ -32,7 +32,6 @@ use Rattle.section.specs.Section.{pathBroken, channelBroken, stateRule}
 use Rattle.section.specs.Typed.{ShapedChannel, Shaped, ByteTables}
 use Rattle.section.specs.declared.state.State.{State}
 use Rattle.original.specs.Map.{rowFrom}
-use Rattle.original.proofs.Lists.{here-or}
 use Rattle.original.proofs.Leaving.{behind}
 
 -- rule 11 of a path whose order and speed are bytes

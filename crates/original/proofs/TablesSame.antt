@@ -30,7 +30,7 @@ use Rattle.original.specs.Fields.{«self_ended», «self_pending_global_
 use Rattle.original.specs.Helpers.{oneMore}
 use Rattle.original.specs.Player.{anySample, anyCell, orderFrom, «find_next_playable_order», scopeLoop, playRow, rowOf, enterAt}
 use Rattle.original.specs.Map.{songOf}
-use Rattle.original.proofs.Lists.{length-tabulate, getD-tabulate}
+use Rattle.laws.proofs.Pieces.{length-tabulate, getD-tabulate}
 use Rattle.original.proofs.Play.{lookup, Fits}
 
 module _ (os : List ℕ) (h : length os ≤ 255) where

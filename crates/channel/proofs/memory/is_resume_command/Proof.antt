@@ -1,5 +1,4 @@
 -- `channel::memory::is_resume_command` meets its contract. Assumes nothing.
-use borrow.Author.Needs.{needs}
 use mathlib.Core.Path.{refl}
 use Rattle.channel.specs.Memory.{resumes}
 use Rattle.channel.proofs.memory.is_resume_command.Statement.{statement}

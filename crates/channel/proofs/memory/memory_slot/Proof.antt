@@ -1,5 +1,4 @@
 -- `channel::memory::memory_slot` meets its contract. Assumes nothing.
-use borrow.Author.Needs.{needs}
 use borrow.Author.Tests.{eq-eqb, ne-eqb}
 use Rattle.channel.specs.Memory.{slotOf}
 use Rattle.channel.proofs.memory.memory_slot.Statement.{statement}

@@ -1,5 +1,5 @@
 -- `channel::memory::remember` meets its contract. Assumes nothing.
-use mathlib.Core.Path.{_≡_, sym, _∙_}
+use mathlib.Core.Path.{sym, _∙_}
 use native.Mathlib.Omega.{arith}
 use Rattle.channel.proofs.Slots.{slot-below}
 use borrow.Author.Needs.{needs}

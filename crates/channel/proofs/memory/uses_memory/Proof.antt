@@ -1,5 +1,4 @@
 -- `channel::memory::uses_memory` meets its contract. Assumes nothing.
-use borrow.Author.Needs.{needs}
 use mathlib.Core.Path.{refl}
 use Rattle.channel.specs.Memory.{hasMemory}
 use Rattle.channel.proofs.memory.uses_memory.Statement.{statement}
