@@ -1,6 +1,7 @@
 //! Times the library beside the original, on the same tunes in one run: walking rows, and reading files. README.md says
 //! what each column is.
 
+mod path;
 mod tunes;
 
 use lomqashe::{RECORD_BYTES, Tune};
@@ -22,7 +23,9 @@ const ROUND: Duration = Duration::from_millis(10);
 fn main() -> ExitCode {
     let tunes = tunes::all();
     println!("rows: ns each, best of {ROUNDS} rounds of 10 ms or more; sections of {SECTION} rows");
-    println!("tune     |   rows | library | original | with records | library to with records");
+    println!(
+        "tune     |   rows | path alone | library | original | with records | library to with records"
+    );
     for (name, theirs) in &tunes {
         if !same(theirs) {
             println!("{name}: the records differ");
@@ -64,7 +67,7 @@ fn walk(tune: &Tune, output: &mut [u8]) -> usize {
     }
 }
 
-/// Both give the same records; a voice is none or some.
+/// Both give the same records, and the path alone as many rows; a voice is none or some.
 fn same(theirs: &tune::Tune) -> bool {
     let tune = ours(theirs);
     let mut state = tune.open().expect("it opens");
@@ -80,7 +83,7 @@ fn same(theirs: &tune::Tune) -> bool {
             channel[15] = channel[15].min(1);
         }
     }
-    rows == original && output == expected
+    rows == original && rows == path::rows(theirs) && output == expected
 }
 
 fn rows_line(theirs: &tune::Tune) -> String {
@@ -93,6 +96,9 @@ fn rows_line(theirs: &tune::Tune) -> String {
     let mut recorded = vec![0; rows * RECORD_BYTES];
     let times = best(&mut [
         &mut || {
+            black_box(path::rows(black_box(theirs)));
+        },
+        &mut || {
             walk(black_box(&tune), black_box(&mut output));
         },
         &mut || {
@@ -102,9 +108,9 @@ fn rows_line(theirs: &tune::Tune) -> String {
             black_box(again.rows_recorded(black_box(&opened), MOST, black_box(&mut recorded)));
         },
     ]);
-    let [library, alone, with] = times.map(|ns| ns / rows as f64);
+    let [path, library, alone, with] = times.map(|ns| ns / rows as f64);
     format!(
-        "{rows:6} | {library:7.1} | {alone:8.1} | {with:12.1} | {:.2}",
+        "{rows:6} | {path:10.1} | {library:7.1} | {alone:8.1} | {with:12.1} | {:.2}",
         library / with
     )
 }
