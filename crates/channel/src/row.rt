@@ -1,4 +1,4 @@
-// A channel's half of the Rust's `enter_row`, and the 32 of them.
+// A channel's half of the Rust's `enter_row`.
 ghost use mathlib.Core.Path.{_≡_};
 ghost use Rattle.pitch.specs.Periods.{periods};
 ghost use Rattle.channel.specs.Row.{putsOff, putOff, heldBack, withInfo, delivered, relatched, channelEntered};
@@ -102,6 +102,7 @@ pub fn enter_channel(
     let e = deliver(armed, cell, samples, table, w.amiga_limits, global);
     let delivered = e.channel;
     let mut channel = relatch(act(delivered, table, w), c.volume, global);
+    // Set last: a memory that goes through the steps is copied at each.
     channel.effect_memory = memory;
     Played {
         channel,
