@@ -52,7 +52,18 @@ module _ {X : Type 0} (f : ℕ → X → X) where
   unfolding mixed mapFrom
   mixed-end l i e = rw (e, take-length, drop-length, append-nil)
 
--- a loop that fills a list from another: the first i entries are made, and one more
 module _ {X Y : Type 0} (f : X → Y) where
+  -- a loop that fills a list from another: the first i entries are made, and one more
   pub filled-next : (m : List X) (l : List Y) (i : ℕ) (d : X) → i < length m → i < length l → take i l ≡ map f (take i m) → take (i + 1) (set l i (f (getD m i d))) ≡ map f (take (i + 1) m)
   filled-next m l i d h k e = rw (add-one, take-suc-set l i (f (getD m i d)) k, e, take-suc m i d h, map-append)
+
+  -- an entry of a mapped list, read and stored
+  pub mapped-at : (l : List X) (i : ℕ) (d : X) (e : Y) → i < length l → getD (map f l) i e ≡ f (getD l i d)
+  mapped-at [] i d e h = absurd (omega arith)
+  mapped-at (x ∷ l) zero d e h = refl
+  mapped-at (x ∷ l) (suc i) d e h = mapped-at l i d e (omega arith)
+
+  pub mapped-set : (l : List X) (i : ℕ) (x : X) → set (map f l) i (f x) ≡ map f (set l i x)
+  mapped-set [] i x = refl
+  mapped-set (y ∷ l) zero x = refl
+  mapped-set (y ∷ l) (suc i) x = ap (λ (r : List Y). f y ∷ r) (mapped-set l i x)

@@ -1,15 +1,15 @@
 -- A list that a loop writes piece by piece. Assumes nothing.
 use mathlib.Core.Path.{_≡_, refl, sym, ap, subst⁻¹, _∙_}
-use mathlib.Core.List.{List, [], _∷_, _++_}
-use Prim.Native.Nat.{ℕ, zero, suc, _+_, _*_, _-_, _<_}
-use native.Mathlib.Nat.{suc-mul, zero-mul, mul-one}
+use mathlib.Core.List.{List, [], _∷_, _++_, append-assoc, append-nil}
+use Prim.Native.Nat.{ℕ, zero, suc, _+_, _*_, _-_, _≤_, _<_}
+use native.Mathlib.Nat.{add-zero, suc-mul, zero-mul, mul-one}
 use native.Mathlib.Numerals.{add-one}
 use native.Mathlib.Omega.{arith}
-use lib.ListN.{length, drop, getD, set, length-append, List·getD-append}
-use lib.Seq.{drop-cons, set-at, getD-at, append-snoc}
+use lib.ListN.{length, take, drop, getD, set, length-append, List·getD-append}
+use lib.Seq.{take-at, take-all, drop-cons, set-at, getD-at, append-snoc}
 use borrow.Rule.Slice.PartMut.{putMid}
 use Rattle.laws.specs.Entries.{pieces, tabulate}
-use Rattle.laws.proofs.Parts.{part-grows}
+use Rattle.laws.proofs.Parts.{part-grows, part-length}
 use Rattle.laws.proofs.Picks.{here-or}
 
 module _ {X : Type 0} (f : ℕ → List X) where
@@ -30,6 +30,40 @@ module _ {X : Type 0} (f : ℕ → List X) where
     where
       next : (k : ℕ) → k * size + size ≡ (k + 1) * size
       next k = rw (add-one, suc-mul)
+
+  -- a list that begins with the first k pieces, and the next one is put
+  pub begins-more : (size : ℕ) → ((k : ℕ) → length (f k) ≡ size) → (k : ℕ) (l : List X) {l' : List X} → k * size + size ≤ length l → take (k * size) l ≡ pieces k f → l' ≡ take (k * size) l ++ (f k ++ drop (k * size + size) l) → (length l' ≡ length l) × (take ((k + 1) * size) l' ≡ pieces (k + 1) f)
+  begins-more size h k l b e g = (
+    ap length g ∙ part-length l (f k) (k * size) size b (h k),
+    ap (λ x. take ((k + 1) * size) x)
+        (g ∙ sym (append-assoc (take (k * size) l) (f k) (drop (k * size + size) l))
+        ∙ ap (λ x. x ++ drop (k * size + size) l) (ap (λ x. x ++ f k) e ∙ sym (pieces-next k)))
+        ∙ take-at (pieces (k + 1) f) (drop (k * size + size) l) ((k + 1) * size) (length-pieces size h (k + 1)),
+  )
+
+  -- and it has no more than its pieces
+  pub begins-all : (size n : ℕ) (l : List X) → length l ≡ n * size → take (n * size) l ≡ pieces n f → l ≡ pieces n f
+  begins-all size n l h e =
+      let b : length l ≤ n * size = omega arith in
+      sym (take-all (n * size) l b) ∙ e
+
+-- pieces that are all the same
+module _ {X : Type 0} (x : List X) where
+  pieces-sum : (a b : ℕ) → pieces (a + b) (λ k. x) ≡ pieces a (λ k. x) ++ pieces b (λ k. x)
+  unfolding pieces
+  pieces-sum a zero = ap (λ (n : ℕ). pieces n (λ k. x)) (add-zero a) ∙ sym (append-nil (pieces a (λ k. x)))
+  pieces-sum a (suc b) =
+      let e : a + suc b ≡ suc (a + b) = omega arith in
+      ap (λ (n : ℕ). pieces n (λ k. x)) e ∙ ap (λ l. l ++ x) (pieces-sum a b) ∙ append-assoc (pieces a (λ k. x)) (pieces b (λ k. x)) x
+
+  -- m rows of n pieces
+  pub pieces-rows : (n m : ℕ) → pieces m (λ j. pieces n (λ k. x)) ≡ pieces (m * n) (λ k. x)
+  unfolding pieces
+  pieces-rows n zero = ap (λ (i : ℕ). pieces i (λ k. x)) (sym (zero-mul n))
+  pieces-rows n (suc m) =
+      ap (λ l. l ++ pieces n (λ k. x)) (pieces-rows n m)
+      ∙ sym (pieces-sum (m * n) n)
+      ∙ ap (λ (i : ℕ). pieces i (λ k. x)) (sym (suc-mul m n))
 
 module _ {X : Type 0} where
   pub length-tabulate : (n : ℕ) (f : ℕ → X) → length (tabulate n f) ≡ n

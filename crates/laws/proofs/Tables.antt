@@ -4,9 +4,10 @@ use mathlib.Core.Path.{_≡_, _∙_, refl, ap, sym}
 use mathlib.Core.Logic.{inl, inr}
 use mathlib.Core.Bool.{Bool, true, false, _&&_, _||_}
 use mathlib.Core.List.{List, [], _∷_}
-use Prim.Native.Nat.{ℕ, zero, suc, _+_, _<_}
+use Prim.Native.Nat.{ℕ, zero, suc, _+_, _-_, _≤_, _<_}
 use native.Mathlib.Nat.{add-zero, zero-add, add-suc, suc-add, le-of-suc-le-suc, not-suc-le-zero, eq-or-lt-of-le}
 use native.Mathlib.Numerals.{add-one}
+use native.Mathlib.Omega.{arith}
 use lib.ListN.{length, getD, drop}
 use lib.Seq.{drop-cons, drop-length}
 use Rattle.laws.specs.Entries.{every, some}
@@ -67,3 +68,33 @@ module _ (f : ℕ → Bool) where
       by : (b : Bool) → f k ≡ b → b ≡ false
       by true g = sym (sym e ∙ some-found n k h g)
       by false g = refl
+
+  -- the numbers below k, and the m behind them
+  pub some-split : (k m : ℕ) → some (k + m) f ≡ (some k f || some m (λ j. f (k + j)))
+  unfolding some
+  some-split k zero = ap (λ (n : ℕ). some n f) (add-zero k) ∙ sym (or-none (some k f))
+    where
+      or-none : (b : Bool) → (b || false) ≡ b
+      or-none true = refl
+      or-none false = refl
+  some-split k (suc m) =
+      let e : k + suc m ≡ suc (k + m) = omega arith in
+      ap (λ (n : ℕ). some n f) e ∙ ap (λ (b : Bool). b || f (k + m)) (some-split k m) ∙ or-assoc (some k f) (some m (λ j. f (k + j))) (f (k + m))
+    where
+      or-assoc : (a b c : Bool) → ((a || b) || c) ≡ (a || (b || c))
+      or-assoc true b c = refl
+      or-assoc false b c = refl
+
+  -- none below k passes, nor any of the m behind them
+  pub some-more : (k m : ℕ) → some k f ≡ false → some m (λ j. f (k + j)) ≡ false → some (k + m) f ≡ false
+  some-more k m e g = some-split k m ∙ rw (e, g)
+
+  -- one of the m behind k passes
+  pub some-found-in : (n k m : ℕ) → k + m ≤ n → some m (λ j. f (k + j)) ≡ true → some n f ≡ true
+  some-found-in n k m h g =
+      let e : k + m + (n - (k + m)) ≡ n = omega arith in
+      ap (λ (i : ℕ). some i f) (sym e) ∙ some-split (k + m) (n - (k + m)) ∙ ap (λ (b : Bool). b || some (n - (k + m)) (λ j. f (k + m + j))) (some-split k m ∙ behind (some k f) _ g)
+    where
+      behind : (a b : Bool) → b ≡ true → (a || b) ≡ true
+      behind true b q = refl
+      behind false b q = q
