@@ -1,15 +1,11 @@
--- Numbers of four and of eight bytes. Assumes nothing.
+-- Numbers of four and of eight bytes, made from their bytes. Assumes nothing.
 use Prim.Native.Nat.{ℕ, _+_, _*_, _/_, _%_, _^_, _<_}
 use mathlib.Core.Path.{_≡_, sym, ap, _∙_}
 use mathlib.Core.List.{List}
-use native.Mathlib.Nat.{add-zero, add-assoc}
 use native.Mathlib.Omega.{arith}
 use lib.ListN.{getD}
 use Rattle.tune.specs.Numbers.{littleAt}
-use Rattle.tune.proofs.Little.{four}
-
-pub halves : (s : List ℕ) (at : ℕ) → littleAt 4 s at + littleAt 4 s (at + 4) * 4294967296 ≡ littleAt 8 s at
-halves s at = rw (add-zero, add-assoc at 4 0, add-assoc at 4 1, add-assoc at 4 2, add-assoc at 4 3) (omega arith)
+use Rattle.tune.proofs.Little.{four, halves}
 
 -- bytes that were made from a number give it back
 pub four-back : (s : List ℕ) (at x : ℕ) → x < 2 ^ 32 → getD s at 0 ≡ x % 256 → getD s (at + 1) 0 ≡ x / 256 % 256 → getD s (at + 2) 0 ≡ x / 256 / 256 % 256 → getD s (at + 3) 0 ≡ x / 256 / 256 / 256 % 256 → x ≡ littleAt 4 s at

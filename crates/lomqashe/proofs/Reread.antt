@@ -9,12 +9,11 @@ use lib.ListN.{length, take, drop, length-drop}
 use lib.Seq.{length-take-le}
 use Rattle.laws.proofs.Pieces.{length-tabulate, tabulate-each}
 use Rattle.tune.specs.Numbers.{littleAt}
-use Rattle.tune.proofs.Little.{four}
+use Rattle.tune.proofs.Little.{four, halves}
 use Rattle.row_path.specs.Sound.{Bytes}
 use Rattle.lomqashe.specs.Channels.{channelOf}
 use Rattle.lomqashe.specs.States.{pathOf, stateBytes, stateOf}
 use Rattle.lomqashe.specs.Typed.{TypedChannel, Typed}
-use Rattle.lomqashe.proofs.Little.{halves}
 use Rattle.lomqashe.proofs.StateKept.{state-kept}
 
 four-small : (s : List ℕ) (at : ℕ) → Bytes s → littleAt 4 s at < 2 ^ 32

@@ -18,12 +18,12 @@ use crate::numbers::bytes_at;
 use crate::numbers::flag_of;
 use crate::numbers::is_set;
 use crate::numbers::put_both;
-use crate::numbers::u64_at;
 use channel::state::Channel;
 use channel::state::PendingTrigger;
 use channel::state::TriggerOption;
 use channel::state::Waveform;
 use tune::numbers::u32_at;
+use tune::numbers::u64_at;
 use tune::parts::copy_whole;
 
 // 0 sine, 1 ramp down, 2 square, 3 random.

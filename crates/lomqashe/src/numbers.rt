@@ -1,12 +1,10 @@
-// Flags, and numbers of several bytes, the low byte first.
+// Flags, and bytes in blocks of 32.
 ghost use mathlib.Core.Path.{_≡_};
 ghost use Prim.Native.Nat.{_+_, _≤_};
 ghost use mathlib.Core.List.{_++_};
 ghost use lib.ListN.{length, take, drop};
-ghost use Rattle.tune.specs.Numbers.{littleAt};
 ghost use Rattle.section.specs.Records.{flag};
 ghost use Rattle.lomqashe.specs.Bytes.{isSet};
-use tune::numbers::u32_at;
 use tune::parts::copy_both;
 use tune::parts::copy_whole;
 
@@ -22,13 +20,6 @@ pub fn is_set(b: u8) -> bool
     ensures { λ r. ⌜ r ≡ isSet b ⌝ }
 {
     b != 0
-}
-
-pub fn u64_at(s: &[u8], at: usize) -> u64
-    requires { ⌜ at + 8 ≤ length (now s) ⌝ }
-    ensures { λ r. ⌜ r ≡ littleAt 8 (now (s .entry)) at ⌝ }
-{
-    u32_at(s, at) as u64 + u32_at(s, at + 4) as u64 * 4294967296
 }
 
 // The 32 bytes at a place.

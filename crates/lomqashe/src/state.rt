@@ -12,7 +12,6 @@ use crate::numbers::bytes_at;
 use crate::numbers::flag_of;
 use crate::numbers::is_set;
 use crate::numbers::put_both;
-use crate::numbers::u64_at;
 use channel::state::Switches;
 use row_path::loops::PatternLoop;
 use row_path::loops::Place;
@@ -23,6 +22,7 @@ use row_path::option::ByteOption;
 use row_path::option::or_before;
 use section::state::State;
 use tune::numbers::u32_at;
+use tune::numbers::u64_at;
 
 fn present(o: ByteOption) -> u8
     ensures { λ r. ⌜ r ≡ spec.present o ⌝ }

@@ -34,6 +34,13 @@ pub fn u32_at(s: &[u8], at: usize) -> u32
         + wide32(s[at + 3]) * 16777216
 }
 
+pub fn u64_at(s: &[u8], at: usize) -> u64
+    requires { ⌜ at + 8 ≤ length (now s) ⌝ }
+    ensures { λ r. ⌜ r ≡ littleAt 8 (now (s .entry)) at ⌝ }
+{
+    u32_at(s, at) as u64 + u32_at(s, at + 4) as u64 * 4294967296
+}
+
 pub fn high_nibble(b: u8) -> u8
     ensures { λ r. ⌜ (r ≡ b / 16) × (r < 16) ⌝ }
 {

@@ -1,9 +1,9 @@
--- `lomqashe::numbers::u64_at` meets its contract. Assumes nothing.
+-- `tune::numbers::u64_at` meets its contract. Assumes nothing.
 use denote.Ref.{now}
 use borrow.Author.Needs.{needs}
-use Rattle.lomqashe.proofs.Little.{halves}
-use Rattle.lomqashe.proofs.numbers.u64_at.Statement.{statement}
-use Rattle.lomqashe.proofs.numbers.u64_at.Tie as tie
+use Rattle.tune.proofs.Little.{halves}
+use Rattle.tune.proofs.numbers.u64_at.Statement.{statement}
+use Rattle.tune.proofs.numbers.u64_at.Tie as tie
 
 u32-at-requires : tie.Need-u32-at-requires
 u32-at-requires c κs = search needs
