@@ -28,13 +28,14 @@ pub enum TriggerOption {
 // The Rust's Channel. The S slot (19) of its memory is the path's, slots 27 to 31 are spare. The AdLib voice is a mark:
 // 0 none, 1 keyed, 2 released.
 pub struct Channel {
-    pub instrument: u8,
     pub frequency: f32,
+    pub target_frequency: f32,
     pub sample_pos: f64,
+    pub effect_memory: [u8; 32],
+    pub instrument: u8,
     pub volume: u8,
     pub pan: u8,
     pub active: bool,
-    pub target_frequency: f32,
     pub command: u8,
     pub info: u8,
     pub vibrato_pos: u8,
@@ -50,7 +51,6 @@ pub struct Channel {
     pub stored_volume: u8,
     pub keep_vibrato_pos_on_new_note: bool,
     pub keep_tremolo_pos_on_new_note: bool,
-    pub effect_memory: [u8; 32],
     pub muted: bool,
     pub frozen: bool,
     pub right_bank: bool,

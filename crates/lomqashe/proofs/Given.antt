@@ -19,12 +19,12 @@ holds b e = rw e tt
 
 channel-given : (c : Channel) (vs : List Val) → shadow (channel.the-field .row .own (channel.the-field .into c) vs) → TypedChannel c
 channel-given c vs h =
-    let f = h .1 .1 .1 in
+    let f = h .1 .1 in
     record {
       frequency = holds _ (f .0 .1);
-      target = holds _ (f .1 .1 .1 .1 .1 .0 .1);
-      position = holds _ (f .1 .0 .1);
-      memory = array-typed u8-field 32 (λ x. Unit) (λ x us g. tt) (c .«effect_memory») _ (h .1 .1 .1 .1 .1 .1 .1 .1 .1 .1 .1 .1 .1 .1 .1 .1 .1 .1 .1 .1 .1 .1 .1 .1 .0) .0;
+      target = holds _ (f .1 .0 .1);
+      position = holds _ (f .1 .1 .0 .1);
+      memory = array-typed u8-field 32 (λ x. Unit) (λ x us g. tt) (c .«effect_memory») _ (f .1 .1 .1 .0) .0;
     }
 
 pub state-given : (s : State) (vs : List Val) → shadow (state.the-row .own s vs) → Typed s

@@ -48,7 +48,7 @@ some-bytes xs n e h k = by (ltb k n) refl
 
 channel-typed : (c : Channel) (vs : List Val) → shadow (channel.the-field .row .own (channel.the-field .into c) vs) → ShapedChannel c
 channel-typed c vs h =
-    let m = array-typed u8-field 32 (λ x. x < 256) (λ x us g. g .1) (c .«effect_memory») _ (h .1 .1 .1 .1 .1 .1 .1 .1 .1 .1 .1 .1 .1 .1 .1 .1 .1 .1 .1 .1 .1 .1 .1 .1 .0) in
+    let m = array-typed u8-field 32 (λ x. x < 256) (λ x us g. g .1) (c .«effect_memory») _ (h .1 .1 .1 .1 .1 .0) in
     record { memory = m .0; bytes = some-bytes (c .«effect_memory») 32 (m .0) (m .1) }
 
 -- a state that a call is given by value
