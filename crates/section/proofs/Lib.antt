@@ -4,6 +4,7 @@ pub mod Counts
 pub mod Nans
 pub mod Ready
 pub mod Rounds
+pub mod Showing
 pub mod Sizes
 pub mod Typed
 pub mod Visiting

@@ -61,7 +61,7 @@ whole-numbers c e =
     let b = or-false (isNan (c .frequency)) (isNan (c .«target_frequency»)) e in
     record { frequency = number (isNan (c .frequency)) (b .0); target = number (isNan (c .«target_frequency»)) (b .1) }
 
-channels-whole : (cs : List Channel) → every (λ i c. not (channelBroken c)) 0 cs ≡ true → (d : Channel) → Numbered d cs
+pub channels-whole : (cs : List Channel) → every (λ i c. not (channelBroken c)) 0 cs ≡ true → (d : Channel) → Numbered d cs
 channels-whole cs e d k h = whole-numbers (getD cs k d) (not-true (channelBroken (getD cs k d)) (at (λ i c. not (channelBroken c)) cs d e k h))
 
 state-parts : (s : State) → stateRule s ≡ 0 → (pathBroken (s .path) ≡ false) × (every (λ i c. not (channelBroken c)) 0 (s .channels) ≡ true)
@@ -75,6 +75,11 @@ unfolding roomRule
 room-parts n room e =
     let b = or-false (ltb 65535 n) (ltb room (recordSize * n)) (kept 11 _ e) in
     (ltb-false 65535 n (b .0), ltb-false room (recordSize * n) (b .1))
+
+-- its channels are none that rule 11 refuses
+pub whole-channels : (t : Tables) (s : State) (n room : ℕ) → sectionRule t s n room ≡ 0 → every (λ i c. not (channelBroken c)) 0 (s .channels) ≡ true
+unfolding sectionRule
+whole-channels t s n room e = state-parts s (sound (stateRule s) (roomRule n room) (sound (tablesRule t) _ e .1) .0) .1
 
 pub ready : (t : Tables) (s : State) (n room : ℕ) → sectionRule t s n room ≡ 0 → Ready t s n room
 unfolding sectionRule

@@ -1,10 +1,16 @@
 // Section: its loop, and the call.
 ghost use mathlib.Core.Path.{_≡_};
-ghost use mathlib.Core.Bool.{_&&_, _||_};
+ghost use mathlib.Core.Bool.{true, not};
+ghost use mathlib.Core.List.{map};
+ghost use Prim.Native.Nat.{_<_};
 ghost use lib.ListN.{length};
+ghost use Rattle.laws.specs.Choice.{pick};
+ghost use Rattle.laws.specs.Entries.{every};
+ghost use Rattle.tune.specs.Cells.{cellOf};
 ghost use Rattle.channel.specs.Rest.{atRest, quiet};
 ghost use Rattle.section.specs.Tables.{lent};
-ghost use Rattle.section.specs.Section.{sectionRule, gave, sectionOf, sectioned, outputAfter};
+ghost use Rattle.section.specs.Records.{channelsBytes};
+ghost use Rattle.section.specs.Section.{channelBroken, sectionRule, gave, sectionOf, sectioned, outputAfter};
 ghost use Rattle.section.specs.Typed.{ByteTables, Shaped};
 ghost use Rattle.section.specs.Walk as spec;
 use crate::record::put_channel;
@@ -15,7 +21,6 @@ use crate::state::State;
 use channel::channels::hear_volume;
 use channel::channels::mark;
 use channel::rest::is_at_rest;
-use channel::rest::is_quiet;
 use channel::row::enter_channel;
 use channel::state::Channel;
 use channel::state::Switches;
@@ -23,9 +28,10 @@ use pitch::periods::period_table;
 use row_path::machine::Path;
 use row_path::machine::enter;
 use row_path::machine::leave;
-use tune::cells::Cell;
 use tune::cells::cell_of;
 use tune::cells::row_cells;
+use tune::numbers::u32_at;
+use tune::parts::copy_whole;
 
 // The answer that refuses nothing.
 fn given(
@@ -51,18 +57,54 @@ fn given(
     }
 }
 
-// Nothing happens there: the visit is held, or the channel is at rest under a quiet cell.
-fn skips(held: bool, c: Channel, cell: Cell) -> bool
-    ensures { λ r. ⌜ r ≡ held || (atRest c && quiet cell) ⌝ }
+// Whether a channel's cell of a row is quiet: its first four bytes as one number, and the fifth.
+fn is_quiet_at(row: &[u8], i: usize) -> bool
+    requires { ⌜ (length (now row) ≡ 160) × (i < 32) ⌝ }
+    ensures { λ r. ⌜ r ≡ quiet (cellOf (now (row .entry)) i) ⌝ }
 {
-    if is_quiet(cell) {
-        return held | is_at_rest(c);
+    let at = i * 5;
+    (u32_at(row, at) == 0x00FF_00FF) & (row[at + 4] == 0)
+}
+
+// The channels' bytes, as a record has them.
+fn shown_of(channels: [Channel; 32]) -> [u8; 512]
+    requires { ⌜ every (λ i c. not (channelBroken c)) 0 channels ≡ true ⌝ }
+    ensures { λ r. ⌜ r ≡ channelsBytes channels ⌝ }
+{
+    let mut shown: [u8; 512] = [0; 512];
+    let mut i: usize = 0;
+    while i < 32 {
+        let c = channels[i];
+        put_channel(&mut shown, i * 16, c);
+        i += 1;
     }
-    held
+    shown
+}
+
+// Which channels are at rest.
+fn rests_of(channels: [Channel; 32]) -> [bool; 32]
+    ensures { λ r. ⌜ r ≡ map atRest channels ⌝ }
+{
+    let mut rests = [false; 32];
+    let mut i: usize = 0;
+    while i < 32 {
+        let c = channels[i];
+        rests[i] = is_at_rest(c);
+        i += 1;
+    }
+    rests
+}
+
+// The first channel that a visit enters: a held visit enters none.
+fn first_entered(held: bool) -> usize
+    ensures { λ r. ⌜ r ≡ pick held 32 0 ⌝ }
+{
+    if held { 32 } else { 0 }
 }
 
 // Up to n rows. One local array of channels serves the whole call: a state copied for each row would cost more than
-// the row.
+// the row. Beside it stand the channels' bytes and which are at rest: a channel that nothing happens to costs one test,
+// and a record's channels are one copy.
 fn walk(
     orders: &[u8],
     cells: &[u8],
@@ -79,6 +121,8 @@ fn walk(
     let mut path = s.path;
     let mut channels = s.channels;
     let mut global = s.global_volume;
+    let mut shown = shown_of(channels);
+    let mut rests = rests_of(channels);
     let mut rows: u32 = 0;
     while rows < n {
         if path.ended {
@@ -94,26 +138,25 @@ fn walk(
         let infos = here.s_info;
         let mut strikes: u32 = 0;
         let mut waiting = global;
-        let mut i: usize = 0;
+        let mut i = first_entered(here.hold.held);
         while i < 32 {
-            let cell = cell_of(row, i);
-            // Read again in each branch: the test then loads no more of a channel than it needs.
-            let tested = channels[i];
-            if skips(here.hold.held, tested, cell) {
-                let c = channels[i];
-                put_channel(output, at + 24 + i * 16, c);
+            if is_quiet_at(row, i) & rests[i] {
                 i += 1;
             } else {
+                let cell = cell_of(row, i);
                 let c = channels[i];
                 let played = enter_channel(c, cell, infos[i], samples, &table, s.switches, global);
                 let d = played.channel;
-                put_channel(output, at + 24 + i * 16, d);
+                put_channel(&mut shown, i * 16, d);
+                rests[i] = is_at_rest(d);
                 channels[i] = d;
                 strikes = mark(strikes, i, played.struck);
                 waiting = hear_volume(cell, waiting);
                 i += 1;
             }
         }
+        let from = at + 24;
+        copy_whole(&mut output[from..from + 512], &shown);
         put_head(output, at, e, global, strikes);
         path = leave(orders, e);
         global = waiting;
