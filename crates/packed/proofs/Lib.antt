@@ -1,3 +1,5 @@
+mod Chosen
+mod Filled
 mod Steps
 mod Walks
 pub mod Lengths

@@ -1,5 +1,5 @@
 -- Laws of one step of the unpacking, by the byte at its place. Assumes nothing.
-use mathlib.Core.Path.{_≡_, refl}
+use mathlib.Core.Path.{_≡_, refl, sym, ap, _∙_}
 use mathlib.Core.Bool.{Bool, true, false}
 use mathlib.Core.List.{List}
 use Prim.Native.Nat.{ℕ, _+_, _*_, _-_, _≤_, _<_}
@@ -8,6 +8,7 @@ use native.Mathlib.Omega.{arith}
 use borrow.Author.Tests.{eq-eqb, ne-eqb, eqb-true, eqb-false}
 use lib.Dec.{eqb}
 use lib.ListN.{length, getD, List·getD-eq-default}
+use Rattle.laws.specs.Choice.{pick}
 use Rattle.packed.specs.Entry.{channelOf, entryBytes, entryCell}
 use Rattle.packed.specs.Unpacking.{stepPlace, stepCells, putCell}
 use Rattle.packed.specs.declared.Place.{Place}
@@ -19,6 +20,18 @@ place-zero s at row e = simp (eq-eqb (getD s at 0) 0 e)
 pub place-entry : (s : List ℕ) (at row : ℕ) → (getD s at 0 ≡ 0 → ⊥) → stepPlace s at row ≡ record { at = at + entryBytes (getD s at 0); row = row }
 unfolding stepPlace
 place-entry s at row e = simp (ne-eqb (getD s at 0) 0 e)
+
+-- a 0 takes one byte, as the entry of a 0 would
+pub place-one : (s : List ℕ) (at row : ℕ) → stepPlace s at row ≡ record { at = at + entryBytes (getD s at 0); row = row + pick (eqb (getD s at 0) 0) 1 0 }
+place-one s at row = by (eqb (getD s at 0) 0) refl
+  where
+    by : (t : Bool) → eqb (getD s at 0) 0 ≡ t → stepPlace s at row ≡ record { at = at + entryBytes (getD s at 0); row = row + pick (eqb (getD s at 0) 0) 1 0 }
+    by true e =
+        let z = eqb-true (getD s at 0) 0 e in
+        place-zero s at row z ∙ (λ j. record { at = at + ap entryBytes (sym z) j; row = row + pick (sym e j) 1 0 })
+    by false e =
+        let z : row ≡ row + 0 = omega arith in
+        place-entry s at row (eqb-false _ _ e) ∙ (λ j. record { at = at + entryBytes (getD s at 0); row = (z ∙ ap (λ (t : Bool). row + pick t 1 0) (sym e)) j })
 
 pub cells-zero : (s : List ℕ) (at row : ℕ) (c : List ℕ) → getD s at 0 ≡ 0 → stepCells s at row c ≡ c
 unfolding stepCells

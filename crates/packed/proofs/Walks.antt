@@ -1,11 +1,15 @@
 -- The loops that step from a pattern's first byte to its 64th row's end. Assumes nothing.
-use mathlib.Core.Path.{_≡_, refl, sym, _∙_}
+use mathlib.Core.Path.{_≡_, refl, sym, ap, _∙_, subst}
+use mathlib.Core.Bool.{Bool, true, false, _||_}
 use mathlib.Core.List.{List}
 use Prim.Native.Nat.{ℕ, zero, suc, _+_, _-_, _≤_, _<_}
 use native.Mathlib.Numerals.{unary-clauses}
 use native.Mathlib.Omega.{arith}
-use borrow.Author.Tests.{lt-ltb, le-ltb}
+use borrow.Author.Tests.{lt-ltb, le-ltb, ltb-true, ltb-false}
+use lib.Dec.{ltb, T}
 use lib.ListN.{length}
+use Rattle.laws.specs.Choice.{pick}
+use Rattle.laws.proofs.Picks.{choice, or-false}
 use Rattle.packed.specs.Unpacking.{stepPlace, stepCells, endFrom, cellsFrom, endOf, unpacked, emptyPattern}
 use Rattle.packed.specs.declared.Place.{Place}
 use Rattle.packed.proofs.Steps.{stepped}
@@ -62,6 +66,50 @@ ending-start s at₀ = walk-start s at₀ refl
 
 pub ending-next : {s : List ℕ} {at₀ i row : ℕ} {p : Place} → Ending s at₀ i row → row < 64 → p ≡ stepPlace s i row → Ending s at₀ (p .at) (p .row)
 ending-next {s} {at₀} {i} {row} w h e = rw e (walk-next w h (λ n g. sym (end-more n s i row h) ∙ g))
+
+-- a pattern that goes on as long as it has rows
+pub ending-on : {s : List ℕ} {at₀ : ℕ} {p q : Place} → Ending s at₀ (p .at) (p .row) → q ≡ pick (ltb (p .row) 64) (stepPlace s (p .at) (p .row)) p → Ending s at₀ (q .at) (q .row)
+ending-on {s} {at₀} {p} {q} w e =
+    subst (λ (r : Place). Ending s at₀ (r .at) (r .row)) (sym e)
+    (choice (λ (r : Place). Ending s at₀ (r .at) (r .row)) (ltb (p .row) 64) (λ t. ending-next w (ltb-true _ _ t) refl) (λ t. w))
+
+-- what is left of the rows and the file
+abbrev pub leftOf : List ℕ → Place → ℕ
+leftOf s p = (64 - p .row) + (length s - p .at)
+
+on-less : (s : List ℕ) (p q : Place) → q ≡ pick (ltb (p .row) 64) (stepPlace s (p .at) (p .row)) p → (leftOf s q ≤ leftOf s p) × (ltb (p .row) 64 ≡ true → leftOf s q < leftOf s p)
+on-less s p q e = by (ltb (p .row) 64) refl
+  where
+    by : (t : Bool) → ltb (p .row) 64 ≡ t → (leftOf s q ≤ leftOf s p) × (ltb (p .row) 64 ≡ true → leftOf s q < leftOf s p)
+    by true t =
+        let l = walk-less s (p .at) (p .row) (ltb-true _ _ t) (e ∙ ap (λ (b : Bool). pick b (stepPlace s (p .at) (p .row)) p) t) in
+        (omega (arith, l), λ _. l)
+    by false t =
+        let l = ap (leftOf s) (e ∙ ap (λ (b : Bool). pick b (stepPlace s (p .at) (p .row)) p) t) in
+        (omega (arith, l), λ u. absurd (subst T (sym u ∙ t) tt))
+
+-- four that go on, of which one has rows
+pub four-less : (s : List ℕ) (p q r t p' q' r' t' : Place) → (ltb (p .row) 64 || ltb (q .row) 64 || ltb (r .row) 64 || ltb (t .row) 64) ≡ true
+    → p' ≡ pick (ltb (p .row) 64) (stepPlace s (p .at) (p .row)) p → q' ≡ pick (ltb (q .row) 64) (stepPlace s (q .at) (q .row)) q
+    → r' ≡ pick (ltb (r .row) 64) (stepPlace s (r .at) (r .row)) r → t' ≡ pick (ltb (t .row) 64) (stepPlace s (t .at) (t .row)) t
+    → leftOf s p' + leftOf s q' + leftOf s r' + leftOf s t' < leftOf s p + leftOf s q + leftOf s r + leftOf s t
+four-less s p q r t p' q' r' t' e ep eq er et =
+    by (ltb (p .row) 64) (ltb (q .row) 64) (ltb (r .row) 64) (ltb (t .row) 64) _ _ _ _ _ _ _ _ e (on-less s p p' ep) (on-less s q q' eq) (on-less s r r' er) (on-less s t t' et)
+  where
+    by : (b c d f : Bool) (k l m n k' l' m' n' : ℕ) → (b || c || d || f) ≡ true
+        → (k' ≤ k) × (b ≡ true → k' < k) → (l' ≤ l) × (c ≡ true → l' < l) → (m' ≤ m) × (d ≡ true → m' < m) → (n' ≤ n) × (f ≡ true → n' < n)
+        → k' + l' + m' + n' < k + l + m + n
+    by true c d f k l m n k' l' m' n' e h i j g = omega (arith, h .1 refl, i .0, j .0, g .0)
+    by false true d f k l m n k' l' m' n' e h i j g = omega (arith, h .0, i .1 refl, j .0, g .0)
+    by false false true f k l m n k' l' m' n' e h i j g = omega (arith, h .0, i .0, j .1 refl, g .0)
+    by false false false f k l m n k' l' m' n' e h i j g = omega (arith, h .0, i .0, j .0, g .1 e)
+
+pub four-done : (a b c d : ℕ) → (ltb a 64 || ltb b 64 || ltb c 64 || ltb d 64) ≡ false → (64 ≤ a) × (64 ≤ b) × (64 ≤ c) × (64 ≤ d)
+four-done a b c d e =
+    let x = or-false (ltb a 64 || ltb b 64 || ltb c 64) (ltb d 64) e in
+    let y = or-false (ltb a 64 || ltb b 64) (ltb c 64) (x .0) in
+    let z = or-false (ltb a 64) (ltb b 64) (y .0) in
+    (ltb-false a 64 (z .0), ltb-false b 64 (z .1), ltb-false c 64 (y .1), ltb-false d 64 (x .1))
 
 pub ending-done : {s : List ℕ} {at₀ i row : ℕ} → Ending s at₀ i row → 64 ≤ row → i ≡ endOf s at₀
 ending-done {s} {at₀} {i} {row} w h = sym (end-done (w .fuel) s i row h) ∙ w .same

@@ -1,3 +1,4 @@
+mod Fours
 pub mod Accepted
 pub mod Parts
 pub mod Samples

@@ -9,6 +9,7 @@ use packed::entry::bit_of;
 use packed::entry::byte_at;
 use tune::numbers::low_nibble;
 use tune::numbers::u16_at;
+use tune::numbers::wide;
 use tune::opening::ChannelOpening;
 use tune::opening::Opening;
 
@@ -33,7 +34,7 @@ fn setting_pan(setting: u8) -> u8
 fn pan_of(setting: u8, pans: bool, byte: u8) -> u8
     ensures { λ r. ⌜ r ≡ panOf setting pans byte ⌝ }
 {
-    if pans & (bit_of(byte, 5) == 1) {
+    if pans & (bit_of(wide(byte), 5) == 1) {
         return low_nibble(byte);
     }
     setting_pan(setting)
@@ -79,7 +80,7 @@ pub fn opening_of(file: &[u8], rate: u32, pan_list: usize) -> Opening
     ensures { λ r. ⌜ r ≡ openingOf (now (file .entry)) rate ⌝ }
 {
     let channels = channels_of(file, pan_list);
-    let flags = file[38];
+    let flags = wide(file[38]);
     Opening {
         speed: file[49],
         tempo: file[50],

@@ -2,6 +2,8 @@
 ghost use mathlib.Core.Path.{_≡_};
 ghost use Prim.Native.Nat.{_+_, _*_, _≤_, _<_};
 ghost use lib.ListN.{length};
+ghost use Rattle.laws.specs.Entries.{some};
+ghost use Rattle.s3m.specs.Layout.{pointerAt};
 ghost use Rattle.s3m.specs.Patterns.{patternCells, cellsOf, patternPast, patternsPast};
 use tune::numbers::u16_at;
 
@@ -15,6 +17,33 @@ fn pattern_past(file: &[u8], pointer: usize) -> bool
     packed::runs_past(file, pointer * 16 + 2)
 }
 
+// The same of pointer k of a list.
+fn past_at(file: &[u8], list: usize, k: usize) -> bool
+    requires { ⌜ (k < 100) × (list + (k + 1) * 2 ≤ length (now file)) ⌝ }
+    ensures { λ r. ⌜ r ≡ patternPast (now (file .entry)) (pointerAt (now (file .entry)) list k) ⌝ }
+{
+    pattern_past(file, u16_at(file, list + k * 2))
+}
+
+// The same of the four pointers from number k on.
+fn four_past(file: &[u8], list: usize, k: usize) -> bool
+    requires { ⌜ (k < 100) × (list + (k + 4) * 2 ≤ length (now file)) ⌝ }
+    ensures { λ r. ⌜ r ≡ some 4 (λ j. patternPast (now (file .entry)) (pointerAt (now (file .entry)) list (k + j))) ⌝ }
+{
+    let at = list + k * 2;
+    let a = u16_at(file, at);
+    let b = u16_at(file, at + 2);
+    let c = u16_at(file, at + 4);
+    let d = u16_at(file, at + 6);
+    if (a == 0) | (b == 0) | (c == 0) | (d == 0) {
+        return pattern_past(file, a)
+            | pattern_past(file, b)
+            | pattern_past(file, c)
+            | pattern_past(file, d);
+    }
+    packed::any_runs_past(file, a * 16 + 2, b * 16 + 2, c * 16 + 2, d * 16 + 2)
+}
+
 // Rule 8, over the n pointers of a list.
 pub fn patterns_past(file: &[u8], list: usize, n: usize) -> bool
     requires { ⌜ (n ≤ 100) × (list + n * 2 ≤ length (now file)) ⌝ }
@@ -22,11 +51,17 @@ pub fn patterns_past(file: &[u8], list: usize, n: usize) -> bool
 {
     let mut k: usize = 0;
     while k < n {
-        let pointer = u16_at(file, list + k * 2);
-        if pattern_past(file, pointer) {
-            return true;
+        if k + 4 <= n {
+            if four_past(file, list, k) {
+                return true;
+            }
+            k += 4;
+        } else {
+            if past_at(file, list, k) {
+                return true;
+            }
+            k += 1;
         }
-        k += 1;
     }
     false
 }

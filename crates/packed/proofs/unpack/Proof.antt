@@ -23,17 +23,14 @@ loop-holds c = (search needs, filling-start _ _ (c .before .before .fill-empty .
 put-step-requires : tie.Need-put-step-requires Inv-loop μ-loop
 put-step-requires c κs = search needs
 
-next-place-requires : tie.Need-next-place-requires Inv-loop μ-loop
-next-place-requires c κs = search needs
-
 loop-less : tie.Need-loop-less Inv-loop μ-loop
-loop-less c = walk-less _ _ _ (c .before .before .before .before .before .loop-test .taken) (c .next-place .ensures)
+loop-less c = walk-less _ _ _ (c .before .before .before .before .loop-test .taken) (c .before .before .put-step .ensures .0)
 
 loop-again : tie.Need-loop-again Inv-loop μ-loop
 loop-again c =
-    let d = c .before .before .before in
+    let d = c .before .before in
     let l = d .before .before .before .loop in
-    (search needs, filling-next (l .cells) (l .inv .1) (d .before .before .loop-test .taken) (c .next-place .ensures) (d .put-step .ensures))
+    (search needs, filling-next (l .cells) (l .inv .1) (d .before .before .loop-test .taken) (d .put-step .ensures .0) (d .put-step .ensures .1))
 
 same-length : tie.Need-same-length Inv-loop μ-loop
 same-length c = search needs
@@ -50,7 +47,6 @@ unpack-spec =
     fill-empty-requires
     loop-holds
     put-step-requires
-    next-place-requires
     loop-less
     loop-again
     same-length

@@ -1,6 +1,5 @@
 -- `packed::entry::bit_of` meets its contract. The shift is a quotient, and the mask its remainder. Assumes nothing.
 use Prim.Native.Nat.{_/_, _^_}
-use mir.Facts.{fits-and-r, fits-lit}
 use borrow.Author.Needs.{needs}
 use lib.Bits.{and-mask, mask-lt}
 use Rattle.packed.proofs.entry.bit_of.Statement.{statement}
@@ -9,11 +8,8 @@ use Rattle.packed.proofs.entry.bit_of.Tie as tie
 shr-result : tie.Need-shr-result
 shr-result c = search needs
 
-cast-result : tie.Need-cast-result
-cast-result c = fits-and-r (c .args .b / 2 ^ c .args .k) (fits-lit tt)
-
 returns : tie.Need-returns
 returns c = (and-mask (c .args .b / 2 ^ c .args .k) 1, mask-lt (c .args .b / 2 ^ c .args .k) 1)
 
 pub bit-of-spec : {M : Type 1} → statement M
-bit-of-spec = tie.close (tie.spec shr-result cast-result returns)
+bit-of-spec = tie.close (tie.spec shr-result returns)

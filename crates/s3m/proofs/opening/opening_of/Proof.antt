@@ -7,8 +7,11 @@ use Rattle.s3m.proofs.opening.opening_of.Tie as tie
 channels-of-requires : tie.Need-channels-of-requires
 channels-of-requires c κs = search needs
 
-shared-slice-read-flags : tie.Need-shared-slice-read-flags
-shared-slice-read-flags c = search needs
+shared-slice-read-wide : tie.Need-shared-slice-read-wide
+shared-slice-read-wide c = search needs
+
+wide-requires : tie.Need-wide-requires
+wide-requires c κs = search needs
 
 shared-slice-read-t7 : tie.Need-shared-slice-read-t7
 shared-slice-read-t7 c = search needs
@@ -30,14 +33,15 @@ u16-at-requires c κs = search needs
 
 returns : tie.Need-returns
 unfolding openingOf
-returns c = rw (c .before .before .before .before .before .before .before .channels-of .ensures, c .before .before .bit-of .ensures .0, c .before .bit-of2 .ensures .0, c .u16-at .ensures .0)
+returns c = rw (c .before .before .before .before .before .before .before .before .channels-of .ensures, c .before .before .bit-of .ensures .0, c .before .bit-of2 .ensures .0, c .before .before .before .before .before .before .wide .ensures .0, c .u16-at .ensures .0)
 
 pub opening-of-spec : {M : Type 1} → statement M
 opening-of-spec =
     tie.close
     (tie.spec
     channels-of-requires
-    shared-slice-read-flags
+    shared-slice-read-wide
+    wide-requires
     shared-slice-read-t7
     shared-slice-read-t10
     shared-slice-read-t12

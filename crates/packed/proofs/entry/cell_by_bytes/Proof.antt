@@ -1,9 +1,9 @@
--- `packed::entry::entry_cell` meets its contract. The five bytes are what `named` gives at their places.
+-- `packed::entry::cell_by_bytes` meets its contract. The five bytes are what `named` gives at their places.
 -- Assumes nothing.
 use borrow.Author.Needs.{needs}
 use Rattle.packed.specs.Entry.{entryCell}
-use Rattle.packed.proofs.entry.entry_cell.Statement.{statement}
-use Rattle.packed.proofs.entry.entry_cell.Tie as tie
+use Rattle.packed.proofs.entry.cell_by_bytes.Statement.{statement}
+use Rattle.packed.proofs.entry.cell_by_bytes.Tie as tie
 
 bit-of-requires : tie.Need-bit-of-requires
 bit-of-requires c κs = search needs
@@ -72,8 +72,8 @@ returns : tie.Need-returns
 unfolding entryCell
 returns c = cc
 
-pub entry-cell-spec : {M : Type 1} → statement M
-entry-cell-spec =
+pub cell-by-bytes-spec : {M : Type 1} → statement M
+cell-by-bytes-spec =
     tie.close
     (tie.spec
     bit-of-requires
