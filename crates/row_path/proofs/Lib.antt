@@ -7,5 +7,6 @@ pub mod Kept
 pub mod Unmoved
 pub mod Settled
 pub mod ReadsOnly
+pub mod Unsteered
 pub mod Walks
 pub mod SoundWalks

@@ -4,6 +4,8 @@ ghost use Prim.Native.Nat.{_<_};
 ghost use lib.ListN.{length};
 ghost use lib.Dec.{eqb, ltb};
 ghost use Rattle.laws.specs.Choice.{pick};
+ghost use Rattle.laws.specs.Entries.{some};
+ghost use Rattle.tune.specs.Cells.{cellOf};
 ghost use Rattle.row_path.specs.Scan.{scanSpeed, scanTempo, scanOrder, scanRow, scanLoop, scanDelay, breakRow, special, specialAt, heard, scanned, firstScan};
 ghost use Rattle.row_path.specs.Steering.{steers};
 use crate::option::ByteOption;
@@ -242,12 +244,26 @@ fn is_steering(c: u8) -> bool
     (c == 1) | (c == 20) | (c == 2) | (c == 3) | (c == 19)
 }
 
-// The 32 channels of a row in turn. A cell that does not steer is passed over, so that the scan is not copied for it.
-pub fn scan_row(row: &[u8], infos: [u8; 32]) -> Scan
+// Whether some cell of a row steers. No branch: most rows have none.
+fn may_steer(row: &[u8]) -> bool
     requires { ⌜ length (now row) ≡ 160 ⌝ }
-    ensures { λ r. ⌜ r ≡ scanned (now (row .entry)) 32 (firstScan infos) ⌝ }
+    ensures { λ r. ⌜ r ≡ some 32 (λ i. steers (cellOf (now (row .entry)) i .command)) ⌝ }
 {
-    let mut a = first_scan(infos);
+    let mut seen = false;
+    let mut i: usize = 0;
+    while i < 32 {
+        seen = seen | is_steering(row[i * 5 + 3]);
+        i += 1;
+    }
+    seen
+}
+
+// The 32 channels of a row in turn. A cell that does not steer is passed over, so that the scan is not copied for it.
+fn scan_cells(row: &[u8], first: Scan) -> Scan
+    requires { ⌜ length (now row) ≡ 160 ⌝ }
+    ensures { λ r. ⌜ r ≡ scanned (now (row .entry)) 32 first ⌝ }
+{
+    let mut a = first;
     let mut i: usize = 0;
     while i < 32 {
         let cell = cell_of(row, i);
@@ -259,4 +275,16 @@ pub fn scan_row(row: &[u8], infos: [u8; 32]) -> Scan
         }
     }
     a
+}
+
+// The scan of a row, whose cells are gone through only if one of them steers.
+pub fn scan_row(row: &[u8], infos: [u8; 32]) -> Scan
+    requires { ⌜ length (now row) ≡ 160 ⌝ }
+    ensures { λ r. ⌜ r ≡ scanned (now (row .entry)) 32 (firstScan infos) ⌝ }
+{
+    let first = first_scan(infos);
+    if may_steer(row) {
+        return scan_cells(row, first);
+    }
+    first
 }
