@@ -1,0 +1,48 @@
+//! One work, once, for a tool that counts instructions: it counts what `counted_work` does. `bench/count` runs it.
+
+use crate::rows::{SECTION, ours, walk};
+use crate::tunes::Kind;
+use crate::{path, reading};
+use lomqashe::RECORD_BYTES;
+use oracle::player::bridge::{Original, open};
+use oracle::writer;
+use std::hint::black_box;
+
+/// Named as it is, so that the tool finds it.
+#[unsafe(no_mangle)]
+#[inline(never)]
+fn counted_work(work: &mut dyn FnMut()) {
+    work();
+}
+
+/// Does a kind's work of a name and prints what to divide the count by: rows, or files. False: there is no such work.
+pub fn run(kind: &Kind, work: &str) -> bool {
+    let [theirs, ..] = kind.tunes();
+    let tune = ours(&theirs);
+    let file = writer::write(&theirs);
+    let mut output = vec![0; SECTION as usize * RECORD_BYTES];
+    let rows = walk(&tune, SECTION, &mut output);
+    let mut recorded = vec![0; rows * RECORD_BYTES];
+    let mut original = Original::new(&theirs);
+    let opened = open(&theirs);
+    let per = match work {
+        "path" | "library" | "original" => rows,
+        "read" | "parse" => 1,
+        _ => return false,
+    };
+    counted_work(&mut || match work {
+        "path" => {
+            black_box(path::rows(&theirs));
+        }
+        "library" => {
+            black_box(walk(&tune, SECTION, &mut output));
+        }
+        "original" => {
+            black_box(original.rows_recorded(&opened, rows, &mut recorded));
+        }
+        "read" => reading::ours(&file),
+        _ => reading::theirs(&file),
+    });
+    println!("{per}");
+    true
+}
