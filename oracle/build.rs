@@ -38,12 +38,7 @@ const PLAYER: &[Patch] = &[
 ];
 
 /// The modules taken over, each with its patches.
-const MODULES: &[(&str, &[Patch])] = &[
-    ("header", HEADER),
-    ("opl2", &[]),
-    ("pattern", &[]),
-    ("player", PLAYER),
-];
+const MODULES: &[(&str, &[Patch])] = &[("header", HEADER), ("opl2", &[]), ("pattern", &[]), ("player", PLAYER)];
 
 fn main() {
     if let Err(why) = build() {
@@ -65,8 +60,7 @@ fn build() -> Result<(), String> {
     for &(name, patches) in MODULES {
         let from = original.join("src").join(format!("{name}.rs"));
         println!("cargo::rerun-if-changed={}", from.display());
-        let mut text = patch::apply(&read(&from)?, patches)
-            .map_err(|why| format!("{}: {why}", from.display()))?;
+        let mut text = patch::apply(&read(&from)?, patches).map_err(|why| format!("{}: {why}", from.display()))?;
         if name == "player" {
             // Inside the module, the bridge sees its private functions and fields.
             text += &module("bridge", &home.join("src/bridge.rs"));

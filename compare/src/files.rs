@@ -1,30 +1,37 @@
-//! Good and damaged files: Measure and Read beside the reader that was written from 01.
+//! Good and damaged files: Measure and Read beside the reader that was written from 01, and the sheets of rust/ beside
+//! the original's.
 
-use crate::layout::opening_of;
-use lomqashe::{Tune, measure};
-use oracle::generate::{self, Purpose, files};
+use crate::both::Both;
+use lomqashe::{Record, Tune, measure};
+use oracle::calls::Call;
+use oracle::generate::{self, Purpose};
 use oracle::random::Random;
-use oracle::{reader, writer};
+use oracle::reader::Lent;
+use oracle::{plan, reader, sheet, writer};
+
+/// Every so many files are read through rust/ and walked.
+const WALKED: usize = 10;
 
 pub fn compare(random: &mut Random, damaged: u64) -> Result<String, String> {
-    let mut count = 0;
-    let mut good = 0;
-    let recorded: Vec<Vec<u8>> = files::all().into_iter().map(|made| made.file).collect();
-    for file in &recorded {
-        good += u64::from(same(file).map_err(|why| format!("recorded file {count}: {why}"))?);
-        count += 1;
+    let both = &mut Both::default();
+    let recorded: Vec<Vec<u8>> = plan::files().into_iter().map(|call| call.slots[0].clone()).collect();
+    let mut lines = 0;
+    for n in 0..recorded.len() + damaged as usize {
+        let file = recorded.get(n).cloned().unwrap_or_else(|| {
+            let mut file = if random.chance(50) {
+                recorded[random.index(recorded.len())].clone()
+            } else {
+                writer::write(&generate::tune(random, Purpose::Visits, n as u64))
+            };
+            damage(random, &mut file);
+            file
+        });
+        same(both, random, &file).map_err(|why| format!("file {n}: {why}"))?;
+        if n.is_multiple_of(WALKED) {
+            lines += walked(&file).map_err(|why| format!("file {n}: {why}"))?;
+        }
     }
-    for n in 0..damaged {
-        let mut file = if random.chance(50) {
-            recorded[random.index(recorded.len())].clone()
-        } else {
-            writer::write(&generate::tune(random, Purpose::Visits, n))
-        };
-        damage(random, &mut file);
-        good += u64::from(same(&file).map_err(|why| format!("damaged file {n}: {why}"))?);
-        count += 1;
-    }
-    Ok(format!("{count} files, {good} of them good"))
+    Ok(format!("{}, {lines} lines of rust/'s sheets", both.refusals()))
 }
 
 /// A few bytes changed, most of them in the header and the lists, and now and then the end cut off.
@@ -41,30 +48,49 @@ fn damage(random: &mut Random, file: &mut Vec<u8>) {
     }
 }
 
-/// Whether the file is good: both read it alike, or refuse it by the same number.
-fn same(file: &[u8]) -> Result<bool, String> {
-    let rate = 60_000;
-    let counts = measure(file).map(|counts| (counts.orders, counts.instruments, counts.patterns));
-    let theirs =
-        reader::measure(file).map(|counts| (counts.orders, counts.instruments, counts.patterns));
-    if counts.map_err(|refusal| refusal.number()) != theirs {
-        return Err(format!("Measure gives {counts:?} and not {theirs:?}"));
+/// Tables as the counts need them, now and then others.
+fn same(both: &mut Both, random: &mut Random, file: &[u8]) -> Result<(), String> {
+    both.same(&Call::measure(file))?;
+    let needs = reader::measure(file).map(|counts| counts.needs());
+    let mut lent = needs.unwrap_or(Lent {
+        orders: 3,
+        samples: 20,
+        cells: 10_240,
+    });
+    if random.chance(5) {
+        let table = random.index(3);
+        *[&mut lent.orders, &mut lent.samples, &mut lent.cells][table] += random.one(&[1, 20, 10_240]);
     }
-    match (Tune::read(file, rate), reader::read(file, rate)) {
-        (Ok(ours), Ok(theirs)) => {
-            let tables = ours.orders == theirs.orders
-                && ours.samples == theirs.samples
-                && ours.cells == theirs.cells;
-            if !tables || ours.opening != opening_of(&theirs.opening) {
-                return Err("Read gives other tables or opening values".to_string());
-            }
-            Ok(true)
+    both.same(&Call::read(file, random.number() as u32, &lent)).map(|_| ())
+}
+
+/// How many lines rust/ prints of the file's first rows, which are the original's.
+fn walked(file: &[u8]) -> Result<usize, String> {
+    const RATE: u32 = 60_000;
+    let theirs = sheet::sheet(file);
+    let tune = match (measure(file), Tune::read(file, RATE)) {
+        (Ok(counts), Ok(tune)) if counts.patterns <= 6 => tune,
+        (_, Err(refusal)) if theirs.ends_with(&format!("refused,{}\n", refusal.number())) => return Ok(0),
+        _ if theirs.ends_with("refused,0\n") => return Ok(0),
+        _ => return Err("rust/ reads otherwise".to_string()),
+    };
+    let rows = tune.rows(50).map_err(|refusal| refusal.to_string())?;
+    let mut ours = Vec::new();
+    for record in rows.take(500) {
+        if !lists_its_mask(&record) {
+            return Err("rust/ lists other strikes".to_string());
         }
-        (Err(ours), Err(theirs)) if ours.number() == theirs => Ok(false),
-        (ours, theirs) => Err(format!(
-            "Read gives {:?} and not {:?}",
-            ours.err().map(|refusal| refusal.number()),
-            theirs.err()
-        )),
+        ours.push(record.line());
     }
+    let lines = theirs.lines().skip(1).take(ours.len());
+    if !ours.iter().map(|line| line.trim_end()).eq(lines) {
+        return Err("rust/ walks otherwise".to_string());
+    }
+    Ok(ours.len())
+}
+
+fn lists_its_mask(record: &Record) -> bool {
+    let mask = record.strike_mask();
+    let struck = (0..32).filter(|k| mask >> k & 1 == 1);
+    record.strikes().as_slice().iter().map(|&k| u32::from(k)).eq(struck)
 }

@@ -1,11 +1,12 @@
-//! Runs the library beside the original Rust (through oracle/'s patched build) and beside 01's reader and rules, on the
-//! same random tables, states and files, and compares every field, every record byte, refusals and untouched bytes. The
-//! first difference stops the run.
+//! Puts the same calls to the library and to the judge (the original Rust through oracle/'s patched build, 01's reader and
+//! rules) and compares every answer and every byte that was lent. The first difference stops the run.
 
+mod both;
 mod cells;
 mod files;
-mod judge;
-mod layout;
+mod library;
+mod pitch;
+mod recorded;
 mod refusals;
 mod sections;
 
@@ -38,13 +39,20 @@ fn main() -> ExitCode {
 
 fn compare(seed: u64, rows: u64) -> Result<(), String> {
     println!("seed {seed}");
-    let told = sections::compare(seed, rows)?;
-    println!("sections: {told}, 0 differences");
-    let told = cells::compare(seed, rows)?;
-    println!("single cells: {told}, 0 differences");
-    let told = refusals::compare(&mut Random::new(seed ^ 0x5EF5), rows / 100)?;
-    println!("refusals: {told}, 0 differences");
-    let told = files::compare(&mut Random::new(seed ^ 0xF11E), rows / 200)?;
-    println!("files: {told}, 0 differences");
+    println!("recorded: {}, 0 differences", recorded::compare()?);
+    println!("sections: {}, 0 differences", sections::compare(seed, rows)?);
+    println!("cells: {}, 0 differences", cells::compare(seed, rows)?);
+    println!(
+        "pitch: {}, 0 differences",
+        pitch::compare(&mut Random::new(seed ^ 0x717C), rows)?
+    );
+    println!(
+        "refusals: {}, 0 differences",
+        refusals::compare(&mut Random::new(seed ^ 0x5EF5), rows / 100)?
+    );
+    println!(
+        "files: {}, 0 differences",
+        files::compare(&mut Random::new(seed ^ 0xF11E), rows / 200)?
+    );
     Ok(())
 }

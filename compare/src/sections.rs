@@ -1,19 +1,19 @@
-//! Sections of random tunes, from Open and from odd states, cut at random.
+//! Sections of random tunes, from Open and from odd states, cut at random; now and then a large tune or a long section.
 
-use crate::judge;
-use crate::layout::{bytes_of, same_state, tune_of};
-use lomqashe::{RECORD_BYTES, Record, State, Tune};
-use oracle::generate::{self, Purpose};
-use oracle::player::bridge::{Original, open};
+use crate::both::{Both, records};
+use oracle::calls::Call;
+use oracle::generate;
 use oracle::random::Random;
-use oracle::{state, tune};
+use oracle::rules::MOST_START;
+use oracle::tune::{PATTERN_BYTES, Tune, le32, le64};
 
-/// What lies in the output before a call, and behind its records afterwards.
-const UNTOUCHED: u8 = 0xA5;
-const SPARE: usize = 7;
 /// States of a tune, and sections from each.
 const STATES: usize = 20;
 const SECTIONS: usize = 10;
+/// Every so many tunes one has 100 patterns, one a section of hundreds of rows, and one a section of the most rows.
+const LARGE: u64 = 50;
+const LONG: u64 = 10;
+const LONGEST: u64 = 500;
 
 #[derive(Default)]
 struct Told {
@@ -25,10 +25,10 @@ struct Told {
 }
 
 pub fn compare(seed: u64, rows: u64) -> Result<String, String> {
-    let mut told = Told::default();
+    let (mut both, mut told) = (Both::default(), Told::default());
     let mut number = seed;
     while told.rows < rows {
-        tune_of_seed(number, &mut told).map_err(|why| format!("tune of seed {number}: {why}"))?;
+        sections(&mut both, number, &mut told).map_err(|why| format!("tune of seed {number}: {why}"))?;
         number += 1;
     }
     Ok(format!(
@@ -37,128 +37,61 @@ pub fn compare(seed: u64, rows: u64) -> Result<String, String> {
     ))
 }
 
-/// Sections of one tune: the first state is Open's, the others are odd.
-fn tune_of_seed(seed: u64, told: &mut Told) -> Result<(), String> {
+/// Sections of one tune: the first state is Open's, the others are odd, and the last has ended.
+fn sections(both: &mut Both, seed: u64, told: &mut Told) -> Result<(), String> {
     let random = &mut Random::new(seed);
-    let theirs = match seed % 3 {
-        0 => generate::steered_tune(random, seed),
-        1 => generate::tune(random, Purpose::Visits, seed),
-        _ => generate::tune(random, Purpose::Walks, seed),
-    };
-    let ours = tune_of(&theirs);
-    let mut original = Original::new(&theirs);
+    let mut tune = generate::any_tune(random, seed);
+    let large = seed.is_multiple_of(LARGE);
+    if large {
+        enlarge(random, &mut tune);
+    }
     told.tunes += 1;
-    let opened = ours.open().map_err(|refusal| refusal.to_string())?;
-    same_state(&opened, &open(&theirs)).map_err(|why| format!("Open: {why}"))?;
-    for i in 0..STATES {
-        let start = first_state(random, &theirs, i);
-        walk(random, &ours, &mut original, start, told)
-            .map_err(|why| format!("state {i}: {why}"))?;
+    let [.., opened] = both.same(&Call::open(&tune))?.slots;
+    let long = match seed {
+        _ if seed.is_multiple_of(LONGEST) => 65_535,
+        _ if seed.is_multiple_of(LONG) => 100 + random.below(900) as u32,
+        _ => 0,
+    };
+    section(both, &Call::section(&tune, opened.clone(), long, 3), told)?;
+    for i in 0..if large { 3 } else { STATES } {
+        let mut state = generate::any_state(random, &tune);
+        state.ended = i == STATES - 1;
+        let unclean = generate::unclean(random, &state);
+        let start = [&opened, &state.encode(), &unclean][if i == 0 { 0 } else { 1 + i % 2 }].clone();
+        walk(both, random, &tune, start, told).map_err(|why| format!("state {i}: {why}"))?;
     }
     Ok(())
 }
 
-fn first_state(random: &mut Random, theirs: &tune::Tune, i: usize) -> state::State {
-    let mut state = match i {
-        0 => open(theirs),
-        _ if i % 2 == 0 => generate::odd_state(random, theirs),
-        _ => generate::steered_state(random, theirs),
-    };
-    state.ended = i == STATES - 1;
-    state
+/// The cells over and over, to 100 patterns that the orders name.
+fn enlarge(random: &mut Random, tune: &mut Tune) {
+    tune.cells = tune.cells.iter().copied().cycle().take(100 * PATTERN_BYTES).collect();
+    tune.orders.iter_mut().for_each(|order| *order = random.between(0, 99));
 }
 
 /// A few sections one behind the other, of 0 to 30 rows each.
-fn walk(
-    random: &mut Random,
-    tune: &Tune,
-    original: &mut Original,
-    start: state::State,
-    told: &mut Told,
-) -> Result<(), String> {
-    let mut state = State::from_bytes(&bytes_of(&start));
-    let mut theirs = start;
+fn walk(both: &mut Both, random: &mut Random, tune: &Tune, mut state: Vec<u8>, told: &mut Told) -> Result<(), String> {
     for i in 0..SECTIONS {
         // Beyond rule 11 a section is refused: refusals.rs has those.
-        if theirs.start > 1 << 62 {
+        if le64(&state, 24) > MOST_START {
             break;
         }
-        let rows = random.one(&[0, 1, 1, 2, 3, 7, 12, 30]);
-        let expected = judge::section(original, &theirs, rows);
-        section(tune, &mut state, rows, &expected, told)
-            .map_err(|why| format!("section {i} of {rows}: {why}"))?;
-        theirs = expected.state;
+        let n = random.one(&[0, 1, 1, 2, 3, 7, 12, 30]);
+        let call = Call::section(tune, state, n, 7);
+        state = section(both, &call, told).map_err(|why| format!("section {i} of {n}: {why}"))?;
     }
     Ok(())
 }
 
-/// One section: its answer, the output, each record's line and strikes, and the state.
-pub fn compare_section(
-    tune: &Tune,
-    state: &mut State,
-    rows: u32,
-    expected: &judge::Section,
-) -> Result<u64, String> {
-    let mut output = vec![UNTOUCHED; rows as usize * RECORD_BYTES + SPARE];
-    let given = tune
-        .section(state, rows, &mut output)
-        .map_err(|refusal| refusal.to_string())?;
-    if (given.rows, given.ended) != (expected.lines.len(), expected.state.ended) {
-        return Err(format!("{given:?}, not {} rows", expected.lines.len()));
-    }
-    let written = given.rows * RECORD_BYTES;
-    if output[written..].iter().any(|&byte| byte != UNTOUCHED) {
-        return Err("bytes behind the last record were written".to_string());
-    }
-    let mut strikes = 0;
-    let (records, _) = output[..written].as_chunks();
-    for (i, bytes) in records.iter().enumerate() {
-        let part = &expected.records[i * RECORD_BYTES..][..RECORD_BYTES];
-        strikes += same_record(bytes, part, &expected.lines[i])
-            .map_err(|why| format!("row {i}: {why}"))?;
-    }
-    same_state(state, &expected.state)?;
-    Ok(strikes)
-}
-
-fn section(
-    tune: &Tune,
-    state: &mut State,
-    rows: u32,
-    expected: &judge::Section,
-    told: &mut Told,
-) -> Result<(), String> {
-    told.strikes += compare_section(tune, state, rows, expected)?;
+/// The state behind a section.
+fn section(both: &mut Both, call: &Call, told: &mut Told) -> Result<Vec<u8>, String> {
+    let answer = both.section(call)?;
     told.sections += 1;
-    told.rows += expected.lines.len() as u64;
-    told.ended += u64::from(expected.state.ended);
-    Ok(())
-}
-
-/// How many channels the record strikes.
-fn same_record(bytes: &[u8; RECORD_BYTES], expected: &[u8], line: &str) -> Result<u64, String> {
-    let record = Record::from_bytes(bytes);
-    for i in 0..RECORD_BYTES {
-        let voice = i >= 24 && i % 16 == 7;
-        let ours = if voice { bytes[i].min(1) } else { bytes[i] };
-        if ours != expected[i] {
-            return Err(format!("record byte {i}: {ours} and not {}", expected[i]));
-        }
-    }
-    if record.line() != line {
-        return Err(format!("line {:?} and not {line:?}", record.line()));
-    }
-    let mut struck: Vec<u32> = record
-        .strikes()
-        .as_slice()
-        .iter()
-        .map(|&i| i.into())
-        .collect();
-    struck.sort_unstable();
-    let mask = record.strike_mask();
-    let listed: Vec<u32> = (0..32).filter(|i| mask >> i & 1 == 1).collect();
-    if struck != listed {
-        return Err(format!("strikes {struck:?} and not {listed:?}"));
-    }
-    Ok(struck.len() as u64)
+    told.rows += records(&answer).count() as u64;
+    told.strikes += records(&answer)
+        .map(|record| u64::from(le32(record, 16).count_ones()))
+        .sum::<u64>();
+    told.ended += u64::from(answer.number >> 16);
+    let [_, _, _, state, _] = answer.slots;
+    Ok(state)
 }

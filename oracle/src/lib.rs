@@ -1,28 +1,22 @@
 //! Runs the original row processor of oxideav-s3m as the judge of the port.
 
-pub mod archive;
-pub mod channels;
+pub mod calls;
 pub mod cover;
 pub mod example;
-pub mod files;
 pub mod generate;
-pub mod met;
-pub mod pipe;
-pub mod pitch;
+pub mod list;
+pub mod plan;
 pub mod powf;
 pub mod random;
 pub mod reader;
 pub mod readers;
 pub mod record;
-pub mod replay;
-pub mod sections;
+pub mod rules;
 pub mod sheet;
 pub mod sheets;
 pub mod show;
 pub mod state;
-pub mod tally;
 pub mod tune;
-pub mod walk;
 pub mod writer;
 
 #[path = "standins/factors.rs"]

@@ -13,10 +13,7 @@ pub fn apply(text: &str, patches: &[Patch]) -> Result<String, String> {
     for patch in patches {
         let times = out.matches(patch.old).count();
         if times != 1 {
-            return Err(format!(
-                "patch '{}' fitted {times} times, not once",
-                patch.name
-            ));
+            return Err(format!("patch '{}' fitted {times} times, not once", patch.name));
         }
         out = out.replacen(patch.old, patch.new, 1);
     }

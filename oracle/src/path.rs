@@ -1,11 +1,10 @@
 //! 01's path machine, written from the document alone and held against the original.
 
 use crate::generate::{self, Purpose};
-use crate::player::bridge::Original;
+use crate::player::bridge::{Original, open, walk};
 use crate::random::Random;
-use crate::state::{Jump, State};
+use crate::state::{Jump, S_SLOT, State};
 use crate::tune::{CHANNELS, Tune};
-use crate::walk;
 
 #[derive(Clone, Debug, PartialEq, Eq)]
 struct Path {
@@ -40,7 +39,7 @@ fn path_of(state: &State) -> Path {
         tempo: state.bpm,
         rate: state.rate,
         start: state.start,
-        last_s: std::array::from_fn(|i| state.channels[i].effect_memory[19]),
+        last_s: std::array::from_fn(|i| state.channels[i].effect_memory[S_SLOT]),
         jump: state.pending_jump,
     }
 }
@@ -130,8 +129,7 @@ impl Path {
     }
 
     fn leave(&mut self, tune: &Tune) {
-        self.start +=
-            u64::from(self.speed) * 5 * u64::from(self.rate) / (2 * u64::from(self.tempo));
+        self.start += u64::from(self.speed) * 5 * u64::from(self.rate) / (2 * u64::from(self.tempo));
         if self.hold > 0 && self.jump.is_none() {
             self.hold -= 1;
             self.held = true;
@@ -163,9 +161,9 @@ fn the_originals_path_is_01s_from_odd_states() {
         for _ in 0..25 {
             let before = generate::odd_state(random, &tune);
             let mut path = path_of(&before);
-            let entered = original.enter(&before);
+            let (entered, _) = original.enter(&before);
             path.enter(&tune);
-            assert_eq!(path, path_of(&entered), "seed {seed}, from {before}");
+            assert_eq!(path, path_of(&entered), "seed {seed}, from {before:?}");
             if !entered.ended {
                 path.leave(&tune);
                 assert_eq!(path, path_of(&original.leave(&entered)), "seed {seed}");
@@ -179,7 +177,7 @@ fn the_originals_path_is_01s_along_walks() {
     for seed in 0..400 {
         let tune = generate::tune(&mut Random::new(seed), Purpose::Walks, seed);
         let mut path: Option<Path> = None;
-        let last = walk::rows(&tune, 300, |before, entered| {
+        let last = walk(&tune, open(&tune), 300, |before, entered, _| {
             let path = path.get_or_insert(path_of(before));
             assert_eq!(path, &path_of(before), "seed {seed}");
             path.enter(&tune);

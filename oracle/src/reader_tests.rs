@@ -162,10 +162,7 @@ fn a_pan_byte_with_bit_5_overrides_by_its_low_nibble() {
         assert_eq!((channels[30].pan, channels[31].pan), (3, pan), "{byte:#x}");
         let moved = opening(&[(95, 136)], &pans).channels[31];
         let given = if byte & 32 == 0 { 12 } else { pan };
-        assert_eq!(
-            (moved.pan, moved.muted, moved.right_bank),
-            (given, true, true)
-        );
+        assert_eq!((moved.pan, moved.muted, moved.right_bank), (given, true, true));
     }
 }
 
@@ -194,10 +191,7 @@ fn orders_then_instrument_pointers_then_pattern_pointers_then_pans() {
     assert_eq!(tune.samples[..20], [0; 20]);
     assert_eq!(tune.samples[20..22], [2, 5]);
     assert_eq!(tune.cells[..PATTERN_BYTES], EMPTY_CELL.repeat(2048));
-    assert_eq!(
-        tune.cells[PATTERN_BYTES + CELL..][..CELL],
-        [255, 0, 33, 0, 0]
-    );
+    assert_eq!(tune.cells[PATTERN_BYTES + CELL..][..CELL], [255, 0, 33, 0, 0]);
     for (i, channel) in tune.opening.channels.iter().enumerate() {
         assert_eq!(usize::from(channel.pan), i % 16);
     }
@@ -367,11 +361,7 @@ fn rule_6_is_asked_of_each_table_before_7_and_8() {
             let mut lent = [needed.orders, needed.samples, needed.cells];
             lent[table] = lent[table].strict_add_signed(by);
             let [orders, samples, cells] = lent;
-            let lent = Lent {
-                orders,
-                samples,
-                cells,
-            };
+            let lent = Lent { orders, samples, cells };
             assert_eq!(read_lent(&good, &lent, 0), Err(6));
             let cut = &good[..good.len() - 1];
             assert_eq!(read_lent(cut, &lent, 0), Err(6));

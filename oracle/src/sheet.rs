@@ -1,8 +1,8 @@
 //! The row sheet of a file, in the form that 01 gives for the program `rowsheet`.
 
-use crate::state::State;
-use crate::tune::Tune;
-use crate::{reader, walk};
+use crate::player::bridge::{open, walk};
+use crate::reader;
+use crate::tune::{Tune, le32, le64};
 use std::fmt::Write;
 
 const RATE: u32 = 60_000;
@@ -18,13 +18,9 @@ pub fn sheet(file: &[u8]) -> String {
     }
 }
 
-/// The tune, or the refusal: 0 for the sheet's own limits, which stand before and
-/// right after Measure.
+/// The tune, or the refusal: 0 for the sheet's own limits, which stand before and right after Measure.
 fn admit(file: &[u8]) -> Result<Tune, u8> {
-    if file.len() > MOST_BYTES {
-        return Err(0);
-    }
-    if reader::measure(file)?.patterns > MOST_PATTERNS {
+    if file.len() > MOST_BYTES || reader::measure(file)?.patterns > MOST_PATTERNS {
         return Err(0);
     }
     reader::read(file, RATE)
@@ -33,8 +29,8 @@ fn admit(file: &[u8]) -> Result<Tune, u8> {
 fn print(tune: &Tune) -> String {
     let mut out = TITLE.to_string();
     let mut count = 0;
-    let last = walk::rows(tune, MOST_ROWS, |_, entered| {
-        out += &line(entered);
+    let last = walk(tune, open(tune), MOST_ROWS, |_, _, record| {
+        out += &line(record);
         count += 1;
     });
     let word = if last.ended { "end" } else { "more" };
@@ -42,22 +38,11 @@ fn print(tune: &Tune) -> String {
     out
 }
 
-pub fn line(state: &State) -> String {
-    let entered = state.entered.expect("a row was entered");
-    line_of([
-        state.order_index.into(),
-        entered.pattern.into(),
-        state.row.into(),
-        state.replaying_for_pattern_delay.into(),
-        state.speed.into(),
-        state.bpm.into(),
-        state.start,
-        entered.length.into(),
-        entered.strikes.count_ones().into(),
-    ])
-}
-
-/// Order, pattern, row, held, speed, tempo, start, length and strikes.
-pub fn line_of(numbers: [u64; 9]) -> String {
+/// A record's line.
+pub fn line(record: &[u8]) -> String {
+    let [order, pattern, row, held, speed, tempo] = [0, 1, 2, 3, 4, 5].map(|at| record[at].into());
+    let (start, length) = (le64(record, 8), le32(record, 20).into());
+    let strikes = le32(record, 16).count_ones().into();
+    let numbers: [u64; 9] = [order, pattern, row, held, speed, tempo, start, length, strikes];
     numbers.map(|number| number.to_string()).join(",") + "\n"
 }

@@ -1,7 +1,8 @@
 //! Holds the built program `rowsheet` against the original's sheets: of every recorded
 //! file, good or damaged, and of fresh tunes written as files.
 
-use crate::generate::{self, Purpose, files};
+use crate::generate::{self, Purpose};
+use crate::plan;
 use crate::random::Random;
 use crate::{sheet, writer};
 use std::collections::BTreeMap;
@@ -23,18 +24,32 @@ pub fn report(words: &[&str]) -> Result<String, String> {
         },
         _ => return Err(usage.to_string()),
     };
-    let recorded = files::all().into_iter().map(|made| made.file);
+    let recorded = plan::files().into_iter().map(|call| call.slots[0].clone());
     let fresh = (seed..seed + tunes).map(fresh);
-    let mut told = Told::default();
+    let (mut files, mut rows, mut endings) = (0, 0, BTreeMap::<String, usize>::new());
     for (i, file) in recorded.chain(fresh).enumerate() {
         let ours = printed(Path::new(program), file.clone())?;
         let original = sheet::sheet(&file);
         if ours != original {
             return Err(format!("file {i}: {program} says\n{ours}not\n{original}"));
         }
-        told.add(&original);
+        let last = original.lines().next_back().unwrap_or_default();
+        let ending = last
+            .split_once(',')
+            .filter(|(word, _)| *word != "refused")
+            .map_or(last, |(word, _)| word);
+        *endings.entry(ending.to_string()).or_default() += 1;
+        files += 1;
+        rows += original.lines().count() - 2;
     }
-    Ok(told.report())
+    let endings: Vec<String> = endings
+        .iter()
+        .map(|(ending, count)| format!("{count} {ending}"))
+        .collect();
+    Ok(format!(
+        "sheets: {files} files and {rows} rows the same ({})\n",
+        endings.join("; ")
+    ))
 }
 
 /// A tune of a seed as a file, walked from Open: steered, busy or made for walks.
@@ -60,39 +75,4 @@ fn printed(program: &Path, file: Vec<u8>) -> Result<String, String> {
     let output = child.wait_with_output().map_err(|why| why.to_string())?;
     let _ = writing.join();
     String::from_utf8(output.stdout).map_err(|why| why.to_string())
-}
-
-/// How the sheets end, and how many rows they have.
-#[derive(Default)]
-struct Told {
-    files: usize,
-    rows: usize,
-    endings: BTreeMap<String, usize>,
-}
-
-impl Told {
-    fn add(&mut self, sheet: &str) {
-        let last = sheet.lines().next_back().unwrap_or_default();
-        let ending = match last.split_once(',') {
-            Some((word @ ("end" | "more"), _)) => word,
-            _ => last,
-        };
-        self.files += 1;
-        self.rows += sheet.lines().count() - 2;
-        *self.endings.entry(ending.to_string()).or_default() += 1;
-    }
-
-    fn report(&self) -> String {
-        let endings: Vec<String> = self
-            .endings
-            .iter()
-            .map(|(ending, count)| format!("{count} {ending}"))
-            .collect();
-        format!(
-            "sheets: {} files and {} rows the same ({})\n",
-            self.files,
-            self.rows,
-            endings.join("; ")
-        )
-    }
 }

@@ -8,6 +8,10 @@ pub const ROW_BYTES: usize = CHANNELS * CELL;
 pub const PATTERN_BYTES: usize = ROWS * ROW_BYTES;
 pub const SAMPLE_BYTES: usize = 20;
 pub const OPENING_BYTES: usize = 144;
+pub const RECORD_BYTES: usize = 536;
+
+/// The record of a row.
+pub type Record = [u8; RECORD_BYTES];
 
 /// An unnamed cell: no note, no instrument, no volume, no command, info 0.
 pub const EMPTY_CELL: [u8; CELL] = [255, 0, 255, 0, 0];
@@ -20,7 +24,7 @@ pub struct ChannelOpening {
     pub adlib: bool,
 }
 
-#[derive(Clone, Debug, PartialEq, Eq)]
+#[derive(Clone, Debug, Default, PartialEq, Eq)]
 pub struct Opening {
     pub speed: u8,
     pub tempo: u8,
@@ -31,7 +35,7 @@ pub struct Opening {
     pub channels: [ChannelOpening; CHANNELS],
 }
 
-#[derive(Clone, Debug, PartialEq, Eq)]
+#[derive(Clone, Debug, Default, PartialEq, Eq)]
 pub struct Tune {
     pub orders: Vec<u8>,
     pub samples: Vec<u8>,
@@ -92,21 +96,6 @@ impl Tune {
     pub fn pattern_at(&self, order: usize) -> Option<usize> {
         let named = usize::from(*self.orders.get(order)?);
         (named < 0xFE && named < self.patterns()).then_some(named)
-    }
-
-    /// Rules 9 and 10: the tables have sizes that 01 gives, and the opening values are in range.
-    pub fn is_accepted(&self) -> bool {
-        let opening = &self.opening;
-        (1..=255).contains(&self.orders.len())
-            && self.cells.len().is_multiple_of(PATTERN_BYTES)
-            && self.patterns() <= 100
-            && self.samples.len().is_multiple_of(SAMPLE_BYTES)
-            && self.sample_count() <= 99
-            && opening.speed > 0
-            && opening.tempo >= 32
-            && opening.global_volume <= 64
-            && opening.channels.iter().all(|channel| channel.pan <= 15)
-            && (1..=100_000).contains(&opening.rate)
     }
 }
 

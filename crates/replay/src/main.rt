@@ -1,29 +1,20 @@
-// Reads the recorded answers of the original Rust, tallies what they hold and compares the path machine with them;
-// tables and cells are read by `tune`.
-// What it prints is compared with the same tally by the harness that recorded them (oracle/README.md has the layout).
-mod path;
-mod tables;
+// Makes each call of the list `calls` anew and compares what the function answers and leaves in the lent bytes with what
+// was recorded (oracle/README.md has the layout).
+mod calls;
+mod cases;
+mod input;
+mod pieces;
 mod tally;
 
-use libc::STDOUT_FILENO;
-
-// Tallies one file of tunes, each followed by its visits or by the rows of its walk.
-fn tally_file(name: &[u8], walks: bool) {
-    let fd = os::open_read(name);
+fn main() {
+    let fd = os::open_read(b"calls");
     if fd < 0 {
-        os::fail(name);
+        os::fail(b"calls");
         return;
     }
     let mut counters = tally::counters();
     let counts: &mut [u64] = &mut counters;
-    tables::tally_tunes(fd, walks, counts);
+    let whole = cases::run(fd, counts);
     libc::close(fd);
-    io::write_all(STDOUT_FILENO, name);
-    io::write_all(STDOUT_FILENO, b"\n");
-    tally::print(counts);
-}
-
-fn main() {
-    tally_file(b"visits", false);
-    tally_file(b"walks", true);
+    tally::print(counts, whole);
 }

@@ -44,13 +44,7 @@ fn free_cell(random: &mut Random, style: &Style) -> [u8; CELL] {
     let level = random.between(0, 64);
     let any = random.byte();
     let volume = random.weighted(&[(12, 255), (6, level), (1, 64), (1, 65), (1, any)]);
-    [
-        note(random),
-        instrument(random, style),
-        volume,
-        command,
-        info,
-    ]
+    [note(random), instrument(random, style), volume, command, info]
 }
 
 fn free_command(random: &mut Random, style: &Style) -> u8 {
@@ -77,14 +71,7 @@ fn note(random: &mut Random) -> u8 {
     let usual = random.between(0, 8) << 4 | random.between(0, 11);
     let above = random.between(0x8C, 0xFD);
     let beside = random.between(0, 8) << 4 | random.between(12, 15);
-    random.weighted(&[
-        (9, 255),
-        (14, usual),
-        (2, 0xFE),
-        (1, 0),
-        (1, beside),
-        (1, above),
-    ])
+    random.weighted(&[(9, 255), (14, usual), (2, 0xFE), (1, 0), (1, beside), (1, above)])
 }
 
 fn instrument(random: &mut Random, style: &Style) -> u8 {
@@ -141,11 +128,7 @@ fn meeting(random: &mut Random, style: &Style, at: usize, row: &mut [u8; ROW_BYT
 
 /// Loops, holds and recalls share the channels from 24 up, so that they find each other.
 fn place(random: &mut Random, style: &Style, row: &mut [u8], effect: Effect) {
-    let most = if style.purpose == Purpose::Walks {
-        3
-    } else {
-        15
-    };
+    let most = if style.purpose == Purpose::Walks { 3 } else { 15 };
     let times = random.weighted(&[(2, 0), (4, 1), (3, 2), (2, most)]);
     let (command, info) = match effect {
         Effect::Speed => (A_SET_SPEED, info(random, A_SET_SPEED, style.orders)),

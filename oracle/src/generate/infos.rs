@@ -43,41 +43,20 @@ fn pattern_break(random: &mut Random) -> u8 {
     let digits = random.between(0, 5) << 4 | random.between(0, 9);
     let nibbles = random.between(0, 4) << 4 | random.between(10, 15);
     let past = random.between(0x64, 0xFF);
-    random.weighted(&[
-        (4, digits),
-        (2, nibbles),
-        (2, 0),
-        (1, 0x63),
-        (1, 0x64),
-        (2, past),
-    ])
+    random.weighted(&[(4, digits), (2, nibbles), (2, 0), (1, 0x63), (1, 0x64), (2, past)])
 }
 
 /// D: DFF, DF0, D0F, DFx, DxF, Dx0, D0y, Dxy and the recall.
 fn volume_slide(random: &mut Random) -> u8 {
     let x = random.between(1, 14);
     let y = random.between(1, 14);
-    random.one(&[
-        0xFF,
-        0xF0,
-        0x0F,
-        0xF0 | y,
-        x << 4 | 0x0F,
-        x << 4,
-        y,
-        x << 4 | y,
-        0,
-    ])
+    random.one(&[0xFF, 0xF0, 0x0F, 0xF0 | y, x << 4 | 0x0F, x << 4, y, x << 4 | y, 0])
 }
 
 /// S: a recall, or any of the 16 kinds but the two of the path, which stand rarely.
 fn extended(random: &mut Random) -> u8 {
     let kind = random.between(0, 15);
-    let quiet = if kind == 0xB || kind == 0xE {
-        0xD
-    } else {
-        kind
-    };
+    let quiet = if kind == 0xB || kind == 0xE { 0xD } else { kind };
     let sub = random.weighted(&[(12, quiet), (1, kind)]);
     let low = random.between(0, 15);
     let fresh = sub << 4 | low;

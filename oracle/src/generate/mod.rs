@@ -3,14 +3,17 @@
 mod cells;
 pub mod files;
 mod infos;
+pub mod pitch;
+pub mod refused;
 mod states;
 mod steered;
 mod tables;
 
-pub use states::odd_state;
+pub use states::{odd_state, unclean};
 pub use steered::{steered_state, steered_tune};
 
 use crate::random::Random;
+use crate::state::State;
 use crate::tune::Tune;
 
 /// What a tune is made for.
@@ -54,18 +57,36 @@ pub fn tune(random: &mut Random, purpose: Purpose, seed: u64) -> Tune {
     }
 }
 
+/// A third of the tunes each: walked from Open, steered, and busy ones.
+pub fn any_tune(random: &mut Random, seed: u64) -> Tune {
+    match seed % 3 {
+        0 => tune(random, Purpose::Walks, seed),
+        1 => steered_tune(random, seed),
+        _ => tune(random, Purpose::Visits, seed),
+    }
+}
+
+/// Odd states of both kinds; one in four has a sample position that is not a number.
+pub fn any_state(random: &mut Random, tune: &Tune) -> State {
+    let mut state = if random.chance(50) {
+        steered_state(random, tune)
+    } else {
+        odd_state(random, tune)
+    };
+    if random.chance(25) {
+        let channel = random.index(state.channels.len());
+        state.channels[channel].sample_pos = f64::from_bits(0x7FF8 << 48);
+    }
+    state
+}
+
 /// The seed's remainder by 8 sees to the extreme sizes and to each ending in turn.
 fn style(random: &mut Random, purpose: Purpose, seed: u64) -> Style {
     let walks = purpose == Purpose::Walks;
     let most = random.one(if walks { &[2, 3, 6] } else { &[6, 60, 250] });
     let orders = 1 + random.index(most);
     let samples = random.one(&[6, 10, 14]);
-    let endings = [
-        Ending::Mark,
-        Ending::ListEnd,
-        Ending::MissingPattern,
-        Ending::ListEnd,
-    ];
+    let endings = [Ending::Mark, Ending::ListEnd, Ending::MissingPattern, Ending::ListEnd];
     Style {
         purpose,
         ending: endings[seed as usize % 4],

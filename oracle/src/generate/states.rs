@@ -1,17 +1,16 @@
 //! Odd states: anything that 01's rule 11 accepts, with nothing waiting and not ended.
 
 use crate::player::bridge::open;
+use crate::player::{Channel, PendingTrigger, Waveform};
 use crate::random::Random;
-use crate::state::{ChannelState, Delay, State};
-use crate::tune::Tune;
+use crate::state::{CHANNEL_BYTES, HEAD_BYTES, KEYED, NO_VOICE, RELEASED, S_SLOT, State, voice};
+use crate::tune::{Tune, le64};
+
+const WAVEFORMS: [Waveform; 4] = [Waveform::Sine, Waveform::RampDown, Waveform::Square, Waveform::Random];
 
 pub fn odd_state(random: &mut Random, tune: &Tune) -> State {
     let order_index = order(random, tune);
-    let (byte, speed, bpm) = (
-        random.byte(),
-        random.between(1, 255),
-        random.between(32, 255),
-    );
+    let (byte, speed, bpm) = (random.byte(), random.between(1, 255), random.between(32, 255));
     let start = random.below(1 << 62);
     let rate = 1 + random.below(100_000) as u32;
     State {
@@ -42,6 +41,7 @@ pub fn odd_state(random: &mut Random, tune: &Tune) -> State {
         amiga_limits: random.chance(50),
         fast_slides: random.chance(50),
         channels: std::array::from_fn(|_| channel(random, tune)),
+        kept: std::array::from_fn(|_| std::array::from_fn(|_| random.byte())),
         ..open(tune)
     }
 }
@@ -61,14 +61,14 @@ fn order(random: &mut Random, tune: &Tune) -> u8 {
     random.weighted(&[(24, named), (4, other), (1, length as u8), (1, byte)])
 }
 
-fn channel(random: &mut Random, tune: &Tune) -> ChannelState {
+fn channel(random: &mut Random, tune: &Tune) -> Channel {
     let count = tune.sample_count() as u8;
     let known = random.between(0, count);
     let byte = random.byte();
-    ChannelState {
-        frequency: frequency(random),
-        target_frequency: frequency(random),
-        sample_pos: sample_pos(random),
+    Channel {
+        frequency: f32::from_bits(frequency(random)),
+        target_frequency: f32::from_bits(frequency(random)),
+        sample_pos: f64::from_bits(sample_pos(random)),
         instrument: random.weighted(&[(8, known), (1, count + 1), (1, 255)]),
         volume: volume(random),
         pan: random.weighted(&[(4, byte & 15), (1, 7), (1, 255), (1, byte)]),
@@ -80,8 +80,8 @@ fn channel(random: &mut Random, tune: &Tune) -> ChannelState {
         last_note: last_note(random),
         pending_delay: delay(random),
         glissando: random.chance(30),
-        vibrato_waveform: random.between(0, 3),
-        tremolo_waveform: random.between(0, 3),
+        vibrato_waveform: random.one(&WAVEFORMS),
+        tremolo_waveform: random.one(&WAVEFORMS),
         retrig_counter: random.byte(),
         tremor_on_counter: random.byte(),
         tremor_off_counter: random.byte(),
@@ -92,7 +92,7 @@ fn channel(random: &mut Random, tune: &Tune) -> ChannelState {
         frozen: random.chance(40),
         right_bank: random.chance(50),
         adlib: random.chance(40),
-        opl_voice: random.chance(40),
+        opl_voice: voice(random.weighted(&[(6, NO_VOICE), (2, KEYED), (2, RELEASED)])),
         voice_global_vol: random.byte(),
         effect_memory: memory(random),
     }
@@ -117,7 +117,7 @@ fn frequency(random: &mut Random) -> u32 {
         -440.0,
     ];
     let subnormal = 1 + random.below(0x7F_FFFF) as u32;
-    let any = random.next() as u32;
+    let any = random.number() as u32;
     let any = if f32::from_bits(any).is_nan() {
         any & 0x807F_FFFF
     } else {
@@ -125,25 +125,12 @@ fn frequency(random: &mut Random) -> u32 {
     };
     let odd = random.one(&ODD).to_bits();
     let usual = (20.0 + random.below(200_000_000) as f32 / 1024.0).to_bits();
-    random.weighted(&[
-        (8, usual),
-        (5, odd),
-        (1, subnormal),
-        (1, subnormal | 1 << 31),
-        (1, any),
-    ])
+    random.weighted(&[(8, usual), (5, odd), (1, subnormal), (1, subnormal | 1 << 31), (1, any)])
 }
 
 /// The bits of a place in a sample, odd ones among them, never of no number.
 fn sample_pos(random: &mut Random) -> u64 {
-    const ODD: [f64; 6] = [
-        0.0,
-        -0.0,
-        f64::INFINITY,
-        f64::NEG_INFINITY,
-        f64::MAX,
-        5e-324,
-    ];
+    const ODD: [f64; 6] = [0.0, -0.0, f64::INFINITY, f64::NEG_INFINITY, f64::MAX, 5e-324];
     let odd = random.one(&ODD).to_bits();
     let usual = (random.below(1 << 40) as f64 / 4096.0).to_bits();
     random.weighted(&[(3, usual), (2, odd), (1, usual | 1 << 63)])
@@ -160,9 +147,9 @@ fn last_note(random: &mut Random) -> u8 {
     random.weighted(&[(5, usual), (2, 0), (1, 0xFE), (1, 0xFF), (2, byte)])
 }
 
-fn delay(random: &mut Random) -> Option<Delay> {
+fn delay(random: &mut Random) -> Option<PendingTrigger> {
     let tick = random.byte();
-    let delay = Delay {
+    let delay = PendingTrigger {
         fire_tick: random.weighted(&[(6, tick & 15), (1, tick), (1, 0)]),
         note: random.byte(),
         instrument: random.byte(),
@@ -179,12 +166,49 @@ fn memory(random: &mut Random) -> [u8; 27] {
     });
     let low = random.between(0, 15);
     let byte = random.byte();
-    out[19] = random.weighted(&[
-        (2, 0xB0 | low),
-        (3, 0xD0 | low),
-        (2, 0xE0 | low),
-        (6, byte),
-        (1, 0),
-    ]);
+    out[S_SLOT] = random.weighted(&[(2, 0xB0 | low), (3, 0xD0 | low), (2, 0xE0 | low), (6, byte), (1, 0)]);
     out
+}
+
+/// The places of a state's head and of a channel that are flags, with the bytes that nobody reads where one is 0.
+const HEAD_FLAGS: [(usize, usize); 6] = [(2, 1), (4, 1), (8, 0), (9, 0), (13, 0), (14, 0)];
+const CHANNEL_FLAGS: [(usize, usize); 9] = [
+    (19, 0),
+    (25, 4),
+    (30, 0),
+    (37, 0),
+    (38, 0),
+    (39, 0),
+    (40, 0),
+    (41, 0),
+    (42, 0),
+];
+
+/// A state's bytes in another way that says the same: flags above 1, waveforms above 3, any NaN, noise in bytes that
+/// are not read.
+pub fn unclean(random: &mut Random, state: &State) -> Vec<u8> {
+    let mut out = state.encode();
+    let (head, channels) = out.split_at_mut(HEAD_BYTES);
+    stain(random, head, &HEAD_FLAGS, &[15, 20, 21, 22, 23]);
+    for part in channels.chunks_exact_mut(CHANNEL_BYTES) {
+        stain(random, part, &CHANNEL_FLAGS, &[45, 46, 47]);
+        part[31] |= random.byte() & 0xFC;
+        part[32] |= random.byte() & 0xFC;
+        if f64::from_bits(le64(part, 8)).is_nan() {
+            part[8] = random.byte();
+            part[15] ^= random.one(&[0, 0x80]);
+        }
+    }
+    out
+}
+
+fn stain(random: &mut Random, part: &mut [u8], flags: &[(usize, usize)], spare: &[usize]) {
+    for &(at, behind) in flags {
+        if part[at] != 0 {
+            part[at] = random.between(1, 255);
+        } else {
+            part[at + 1..=at + behind].fill_with(|| random.byte());
+        }
+    }
+    spare.iter().for_each(|&at| part[at] = random.byte());
 }

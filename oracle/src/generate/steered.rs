@@ -4,7 +4,7 @@
 use super::{Purpose, states, tune};
 use crate::player::cmd::*;
 use crate::random::Random;
-use crate::state::State;
+use crate::state::{S_SLOT, State};
 use crate::tune::{CELL, ROW_BYTES, Tune};
 
 /// A tune for visits with its orders and cells changed; its first order stays.
@@ -77,13 +77,12 @@ pub fn steered_state(random: &mut Random, tune: &Tune) -> State {
         (1, Some(owner)),
     ]);
     state.loop_count = random.weighted(&[(1, state.loop_count), (1, Some(count))]);
-    state.pattern_delay_remaining =
-        random.weighted(&[(2, state.pattern_delay_remaining), (1, hold)]);
+    state.pattern_delay_remaining = random.weighted(&[(2, state.pattern_delay_remaining), (1, hold)]);
     state.speed = random.between(1, 255);
     state.bpm = random.between(32, 255);
     for channel in &mut state.channels {
         let (any, special) = (random.byte(), special(random));
-        channel.effect_memory[19] = random.weighted(&[(2, any), (3, special), (1, 0)]);
+        channel.effect_memory[S_SLOT] = random.weighted(&[(2, any), (3, special), (1, 0)]);
     }
     state
 }

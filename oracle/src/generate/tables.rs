@@ -75,7 +75,7 @@ fn stretch(random: &mut Random) -> [u32; 3] {
 fn c5_speed(random: &mut Random) -> u32 {
     let usual = 4_000 + random.below(44_000) as u32;
     let small = random.below(4_000) as u32;
-    let huge = random.next() as u32;
+    let huge = random.number() as u32;
     // From about 229 million up a period becomes 0, first for the highest notes.
     let fast = 400_000 + random.below(250_000_000) as u32;
     random.weighted(&[

@@ -30,13 +30,7 @@ pub fn any_instrument(random: &mut Random) -> Vec<u8> {
 /// A packed pattern with entries in `busy` of 100 rows.
 pub fn pattern(random: &mut Random, busy: u64) -> Vec<u8> {
     let rows: Vec<Vec<u8>> = (0..ROWS)
-        .map(|_| {
-            if random.chance(busy) {
-                row(random)
-            } else {
-                vec![]
-            }
-        })
+        .map(|_| if random.chance(busy) { row(random) } else { vec![] })
         .collect();
     packed(random, &rows)
 }
@@ -48,7 +42,7 @@ pub fn packed(random: &mut Random, rows: &[Vec<u8>]) -> Vec<u8> {
         out.extend(row);
         out.push(0);
     }
-    let (right, odd) = (out.len() as u16, random.next() as u16);
+    let (right, odd) = (out.len() as u16, random.number() as u16);
     let word = random.weighted(&[(2, right), (1, 0), (1, 2), (1, 65_535), (3, odd)]);
     out[..2].copy_from_slice(&word.to_le_bytes());
     out

@@ -1,0 +1,227 @@
+//! Calls of the border's six functions, bytes in and bytes out, and the judge of what they answer: the original for
+//! Open and Section, 01's reader for Measure and Read, 01's words for Strikes and Line and for every refusal.
+
+use crate::player::bridge::{Original, open};
+use crate::reader::{self, Lent};
+use crate::rules::{self, COUNTS_BYTES};
+use crate::sheet;
+use crate::state::{STATE_BYTES, State};
+use crate::tune::{OPENING_BYTES, Opening, RECORD_BYTES, Tune, le32};
+
+/// What lies in the bytes that a call may write, beforehand.
+pub const UNTOUCHED: u8 = 0xA5;
+
+#[derive(Clone, Copy, Debug, PartialEq, Eq, PartialOrd, Ord)]
+pub enum Function {
+    Measure,
+    Read,
+    Open,
+    Section,
+    Strikes,
+    Line,
+}
+
+impl Function {
+    pub const ALL: [Function; 6] = [
+        Function::Measure,
+        Function::Read,
+        Function::Open,
+        Function::Section,
+        Function::Strikes,
+        Function::Line,
+    ];
+
+    pub fn name(self) -> &'static str {
+        ["measure", "read", "open", "section", "strikes", "line"][self as usize]
+    }
+}
+
+/// The slices that a function is lent, in the order of its arguments; empty behind them.
+pub type Slots = [Vec<u8>; 5];
+
+#[derive(Clone, Debug, PartialEq, Eq)]
+pub struct Call {
+    pub function: Function,
+    /// Read's rate, Section's n.
+    pub number: u32,
+    pub slots: Slots,
+}
+
+/// What a call gives, and the slots behind it.
+#[derive(Clone, Debug, PartialEq, Eq)]
+pub struct Answer {
+    pub number: u32,
+    pub slots: Slots,
+}
+
+impl Answer {
+    pub fn refusal(&self) -> u8 {
+        (self.number >> 24) as u8
+    }
+}
+
+fn untouched(length: usize) -> Vec<u8> {
+    vec![UNTOUCHED; length]
+}
+
+impl Call {
+    pub fn measure(file: &[u8]) -> Call {
+        let slots = [file.to_vec(), untouched(COUNTS_BYTES), vec![], vec![], vec![]];
+        Call {
+            function: Function::Measure,
+            number: 0,
+            slots,
+        }
+    }
+
+    pub fn read(file: &[u8], rate: u32, lent: &Lent) -> Call {
+        let tables = [lent.orders, lent.samples, lent.cells].map(untouched);
+        let [orders, samples, cells] = tables;
+        let slots = [file.to_vec(), orders, samples, cells, untouched(OPENING_BYTES)];
+        Call {
+            function: Function::Read,
+            number: rate,
+            slots,
+        }
+    }
+
+    pub fn open(tune: &Tune) -> Call {
+        let [orders, cells, samples] = [&tune.orders, &tune.cells, &tune.samples].map(Vec::clone);
+        let slots = [
+            orders,
+            cells,
+            samples,
+            tune.opening.encode().to_vec(),
+            untouched(STATE_BYTES),
+        ];
+        Call {
+            function: Function::Open,
+            number: 0,
+            slots,
+        }
+    }
+
+    /// From the bytes of a state, into an output with so many bytes to spare.
+    pub fn section(tune: &Tune, state: Vec<u8>, n: u32, spare: usize) -> Call {
+        let [orders, cells, samples] = [&tune.orders, &tune.cells, &tune.samples].map(Vec::clone);
+        let slots = [
+            orders,
+            cells,
+            samples,
+            state,
+            untouched(n as usize * RECORD_BYTES + spare),
+        ];
+        Call {
+            function: Function::Section,
+            number: n,
+            slots,
+        }
+    }
+
+    /// Strikes or Line.
+    pub fn of_record(function: Function, record: &[u8], output: usize) -> Call {
+        Call {
+            function,
+            number: 0,
+            slots: [record.to_vec(), untouched(output), vec![], vec![], vec![]],
+        }
+    }
+
+    /// The tables that Open or Section is lent.
+    pub fn tune(&self) -> Tune {
+        let [orders, cells, samples, opening, _] = self.slots.clone();
+        let opening = if self.function == Function::Open {
+            Opening::decode(&opening)
+        } else {
+            Opening::default()
+        };
+        Tune {
+            orders,
+            cells,
+            samples,
+            opening,
+        }
+    }
+
+    /// The lengths of the tables that Read is lent.
+    pub fn lent(&self) -> Lent {
+        Lent {
+            orders: self.slots[1].len(),
+            samples: self.slots[2].len(),
+            cells: self.slots[3].len(),
+        }
+    }
+}
+
+/// Keeps the original of the tables that it was last asked about.
+#[derive(Default)]
+pub struct Judge(Option<(Tune, Original)>);
+
+impl Judge {
+    pub fn answer(&mut self, call: &Call) -> Answer {
+        let mut slots = call.slots.clone();
+        let given = match rules::broken(call).first() {
+            Some(&(rule, _)) => Err(rule),
+            None => self.write(call, &mut slots),
+        };
+        Answer {
+            number: given.unwrap_or_else(|rule| u32::from(rule) << 24),
+            slots,
+        }
+    }
+
+    /// What a call gives that breaks none of the rules 9 to 13.
+    fn write(&mut self, call: &Call, slots: &mut Slots) -> Result<u32, u8> {
+        match call.function {
+            Function::Measure => {
+                let counts = reader::measure(&slots[0])?;
+                let counts = [counts.orders, counts.instruments, counts.patterns];
+                slots[1] = counts.iter().flat_map(|&count| (count as u32).to_le_bytes()).collect();
+            }
+            Function::Read => {
+                let tune = reader::read_lent(&slots[0], &call.lent(), call.number)?;
+                slots[1..].clone_from_slice(&[tune.orders, tune.samples, tune.cells, tune.opening.encode().to_vec()]);
+            }
+            Function::Open => slots[4] = open(&call.tune()).encode(),
+            Function::Section => return Ok(self.section(call, slots)),
+            Function::Strikes => return Ok(strikes(slots)),
+            Function::Line => {
+                let line = sheet::line(&slots[0]);
+                slots[1][..line.len()].copy_from_slice(line.as_bytes());
+                return Ok(line.len() as u32);
+            }
+        }
+        Ok(0)
+    }
+
+    /// Rows in bits 0 to 15, whether the tune has ended in bit 16.
+    fn section(&mut self, call: &Call, slots: &mut Slots) -> u32 {
+        let original = self.original(call);
+        let from = State::decode(&call.slots[3]);
+        let rows = original.rows_recorded(&from, call.number as usize, &mut slots[4]);
+        let state = original.state();
+        slots[3] = state.encode();
+        rows as u32 | u32::from(state.ended) << 16
+    }
+
+    fn original(&mut self, call: &Call) -> &mut Original {
+        let [orders, cells, samples, ..] = &call.slots;
+        let known =
+            |(tune, _): &(Tune, Original)| [&tune.orders, &tune.cells, &tune.samples] == [orders, cells, samples];
+        if !self.0.as_ref().is_some_and(known) {
+            let tune = call.tune();
+            self.0 = Some((tune.clone(), Original::new(&tune)));
+        }
+        let (_, original) = self.0.as_mut().expect("it was made");
+        original
+    }
+}
+
+/// The struck channels, in the order of their numbers: 01 leaves it free, and the port lists them so.
+fn strikes(slots: &mut Slots) -> u32 {
+    let mask = le32(&slots[0], 16);
+    let struck: Vec<u8> = (0..32).filter(|channel| mask >> channel & 1 == 1).collect();
+    slots[1][..rules::STRIKES_BYTES].fill(0);
+    slots[1][..struck.len()].copy_from_slice(&struck);
+    mask.count_ones()
+}

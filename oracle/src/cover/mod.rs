@@ -1,0 +1,173 @@
+//! What the list covers, told from its cases and not from the plan. Each answer must also be the one that the rules give,
+//! asked one by one.
+
+mod cells;
+mod files;
+mod path;
+mod pitch;
+mod refusals;
+mod sections;
+
+use crate::calls::Function;
+use crate::list::Case;
+use crate::record;
+use crate::rules;
+use sections::Sections;
+use std::collections::BTreeMap;
+use std::path::Path;
+
+const MOST_BYTES: u64 = 3_000_000;
+
+/// So many things are asked for: none may drop out because nothing looks for it.
+const ASKED: usize = 5_748;
+
+/// How often a thing was seen: from states, and along walks from Open; and where it must be.
+#[derive(Default)]
+struct Count {
+    seen: [usize; 2],
+    needed: Option<Needed>,
+}
+
+/// Where a thing must be seen.
+#[derive(Clone, Copy, PartialEq, Eq)]
+enum Needed {
+    Anywhere,
+    FromStates,
+    Both,
+}
+
+#[derive(Default)]
+pub struct Tally {
+    things: BTreeMap<String, Count>,
+    walking: bool,
+    /// Before the name of a thing that a file has.
+    prefix: &'static str,
+    /// How many of the things that are asked for were seen.
+    met: usize,
+}
+
+impl Tally {
+    fn thing(&mut self, what: impl AsRef<str>) -> &mut Count {
+        self.things
+            .entry(format!("{}{}", self.prefix, what.as_ref()))
+            .or_default()
+    }
+
+    /// Counts a thing, whether it is asked for or not.
+    fn note(&mut self, what: impl AsRef<str>) {
+        let walking = usize::from(self.walking);
+        let thing = self.thing(what);
+        let first = thing.needed.is_some() && thing.seen == [0; 2];
+        thing.seen[walking] += 1;
+        self.met += usize::from(first);
+    }
+
+    fn need(&mut self, needed: Needed, what: impl IntoIterator<Item = impl AsRef<str>>) {
+        what.into_iter().for_each(|what| self.thing(what).needed = Some(needed));
+    }
+
+    /// Asks for all of these, and counts those that hold.
+    fn ask<const N: usize>(&mut self, needed: Needed, facts: [(bool, &str); N]) {
+        for (holds, what) in facts {
+            self.thing(what).needed.get_or_insert(needed);
+            if holds {
+                self.note(what);
+            }
+        }
+    }
+
+    fn anywhere<const N: usize>(&mut self, facts: [(bool, &str); N]) {
+        self.ask(Needed::Anywhere, facts);
+    }
+
+    fn in_states<const N: usize>(&mut self, facts: [(bool, &str); N]) {
+        self.ask(Needed::FromStates, facts);
+    }
+
+    fn both<const N: usize>(&mut self, facts: [(bool, &str); N]) {
+        self.ask(Needed::Both, facts);
+    }
+}
+
+/// The report, or what is missing.
+pub fn report(dir: &Path) -> Result<String, String> {
+    let (mut tally, mut sections) = (asked(), Sections::default());
+    let cases = record::load(dir)?;
+    for (i, case) in cases.iter().enumerate() {
+        see(&mut tally, &mut sections, case).map_err(|why| format!("cover: case {i}: {why}"))?;
+    }
+    let bytes = std::fs::metadata(dir.join(record::LIST)).map_or(0, |list| list.len());
+    tally.prefix = "";
+    files::see_sizes(&mut tally, &cases);
+    tally.anywhere([(bytes <= MOST_BYTES, "a list of at most 3,000,000 bytes")]);
+    let (mut out, mut missing, mut asked) = (String::new(), Vec::new(), 0);
+    for (
+        what,
+        Count {
+            seen: [states, walks],
+            needed,
+        },
+    ) in &tally.things
+    {
+        let met = match needed {
+            None => continue,
+            Some(Needed::Anywhere) => states + walks > 0,
+            Some(Needed::FromStates) => *states > 0,
+            Some(Needed::Both) => *states > 0 && *walks > 0,
+        };
+        asked += 1;
+        out += &format!("cover: {what}: {} ({walks} along walks)\n", states + walks);
+        if !met {
+            missing.push(what.as_str());
+        }
+    }
+    if missing.is_empty() && asked == ASKED {
+        Ok(out + &format!("cover: {asked} things are in {} cases, {bytes} bytes\n", cases.len()))
+    } else {
+        Err(format!(
+            "{out}cover: {asked} things of {ASKED} were asked for; missing: {}",
+            missing.join("; ")
+        ))
+    }
+}
+
+/// Those of the cases that show something which none before them did, and the first so many.
+pub fn telling(cases: impl Iterator<Item = Case>, first: usize) -> Vec<Case> {
+    let (mut tally, mut sections) = (asked(), Sections::default());
+    let is_telling = |(i, case): &(usize, Case)| {
+        let before = tally.met;
+        see(&mut tally, &mut sections, case).expect("the judge keeps the rules");
+        tally.met > before || *i < first
+    };
+    cases.enumerate().filter(is_telling).map(|(_, case)| case).collect()
+}
+
+/// A tally that asks for all that no look names.
+fn asked() -> Tally {
+    let mut tally = Tally::default();
+    for needs in [files::needs, path::needs, cells::needs, pitch::needs, refusals::needs] {
+        needs(&mut tally);
+    }
+    tally
+}
+
+fn see(tally: &mut Tally, sections: &mut Sections, case: &Case) -> Result<(), String> {
+    let broken = rules::broken(&case.call);
+    let (refusal, first) = (case.answer.refusal(), broken.first().map_or(0, |&(rule, _)| rule));
+    let of_file = matches!(case.call.function, Function::Measure | Function::Read) && first == 0;
+    (tally.walking, tally.prefix) = (false, if of_file { "file: " } else { "" });
+    if refusal != first && !of_file {
+        return Err(format!("refused by {refusal}, but broken are {broken:?}"));
+    }
+    if first > 0 {
+        refusals::see(tally, case, &broken);
+        return Ok(());
+    }
+    match case.call.function {
+        Function::Measure | Function::Read => files::see(tally, case)?,
+        Function::Open => sections.opened(tally, case),
+        Function::Section => sections.section(tally, case)?,
+        Function::Strikes | Function::Line => refusals::see_record(tally, case),
+    }
+    Ok(())
+}

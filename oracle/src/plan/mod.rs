@@ -1,0 +1,102 @@
+//! Which calls are recorded: each from a seed, and answered by the judge as it is asked.
+
+mod pitch;
+mod rows;
+
+use crate::calls::{Answer, Call, Function, Judge};
+use crate::cover;
+use crate::generate::{self, Purpose, files};
+use crate::list::Case;
+use crate::random::Random;
+use crate::tune::{PATTERN_BYTES, RECORD_BYTES};
+
+pub use pitch::{C5_SPEEDS, FREQUENCIES, PERIODS};
+pub use rows::{free_tune, planned_tune};
+
+const FILE_SEEDS: u64 = 6_000;
+const FIRST_FILES: usize = 570;
+const REFUSED_SEED: u64 = 932;
+const REFUSED: usize = 4_000;
+
+/// The calls with the judge's answers, in the order of the list.
+#[derive(Default)]
+pub struct Asked {
+    judge: Judge,
+    pub cases: Vec<Case>,
+}
+
+impl Asked {
+    fn ask(&mut self, call: Call) -> Answer {
+        let answer = self.judge.answer(&call);
+        self.cases.push(Case {
+            call,
+            answer: answer.clone(),
+        });
+        answer
+    }
+}
+
+pub fn recorded() -> Vec<Case> {
+    let mut asked = Asked::default();
+    for file in files() {
+        asked.ask(Call::measure(&file.slots[0]));
+        asked.ask(file);
+    }
+    rows::add(&mut asked);
+    pitch::add(&mut asked);
+    refused().into_iter().for_each(|call| drop(asked.ask(call)));
+    records(&mut asked);
+    asked.cases
+}
+
+/// Read's calls on files: of many seeds those that show something new.
+pub fn files() -> Vec<Call> {
+    let made = (0..FILE_SEEDS).map(files::made);
+    telling(
+        made.map(|made| Call::read(&made.file, made.rate, &made.lent)),
+        FIRST_FILES,
+    )
+}
+
+/// Calls that break rules 9 to 13 and 255, on one tune of one pattern: of many those that show something new.
+fn refused() -> Vec<Call> {
+    let random = &mut Random::new(REFUSED_SEED);
+    let mut tune = generate::tune(random, Purpose::Walks, REFUSED_SEED);
+    tune.cells.truncate(PATTERN_BYTES);
+    tune.orders[0] = 0;
+    let state = generate::odd_state(random, &tune);
+    telling((0..REFUSED).map(|_| generate::refused::call(random, &tune, &state)), 0)
+}
+
+fn telling(calls: impl Iterator<Item = Call>, first: usize) -> Vec<Call> {
+    let mut judge = Judge::default();
+    let cases = calls.map(|call| Case {
+        answer: judge.answer(&call),
+        call,
+    });
+    cover::telling(cases, first).into_iter().map(|case| case.call).collect()
+}
+
+/// Strikes and Line of recorded rows, by their heads.
+fn records(asked: &mut Asked) {
+    let sections = asked
+        .cases
+        .iter()
+        .filter(|case| case.call.function == Function::Section);
+    let rows = sections.flat_map(|case| {
+        let rows = if case.answer.refusal() == 0 {
+            case.answer.number & 0xFFFF
+        } else {
+            0
+        };
+        case.answer.slots[4].chunks_exact(RECORD_BYTES).take(rows as usize)
+    });
+    let rows: Vec<Vec<u8>> = rows.step_by(23).map(<[u8]>::to_vec).collect();
+    let mut record = rows[0].clone();
+    for row in rows {
+        record[..24].copy_from_slice(&row[..24]);
+        for function in [Function::Strikes, Function::Line] {
+            asked.ask(Call::of_record(function, &record, 70));
+        }
+    }
+}

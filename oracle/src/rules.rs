@@ -1,0 +1,122 @@
+//! Rules 9 to 13 written from 01 alone, and 255 from the border: the original refuses nothing.
+
+use crate::calls::{Call, Function};
+use crate::state::{STATE_BYTES, State};
+use crate::tune::{OPENING_BYTES, Opening, PATTERN_BYTES, RECORD_BYTES, SAMPLE_BYTES};
+
+pub const MOST_START: u64 = 1 << 62;
+pub const WRONG_LENGTH: u8 = 255;
+pub const COUNTS_BYTES: usize = 12;
+/// What Strikes and Line need as output.
+pub const STRIKES_BYTES: usize = 32;
+pub const LINE_BYTES: usize = 64;
+
+/// A way to break a rule, with the rule's number and whether it is broken so.
+pub type Fact = (u8, &'static str, bool);
+
+/// What is broken, in the order in which the rules are asked.
+pub fn broken(call: &Call) -> Vec<(u8, &'static str)> {
+    facts(call)
+        .into_iter()
+        .filter(|fact| fact.2)
+        .map(|(rule, what, _)| (rule, what))
+        .collect()
+}
+
+/// All that is asked of a call, but for rules 1 to 8, which the reader asks.
+pub fn facts(call: &Call) -> Vec<Fact> {
+    let [a, b, c, d, e] = &call.slots;
+    match call.function {
+        Function::Measure => length(b, COUNTS_BYTES, "counts"),
+        Function::Read => length(e, OPENING_BYTES, "opening"),
+        Function::Open => {
+            let lengths = [length(d, OPENING_BYTES, "opening"), length(e, STATE_BYTES, "state")];
+            [lengths.concat(), tables(a, b, c), opening(d)].concat()
+        }
+        Function::Section => [
+            length(d, STATE_BYTES, "state"),
+            tables(a, b, c),
+            state(d),
+            output(call.number, e),
+        ]
+        .concat(),
+        Function::Strikes => record(a, b, STRIKES_BYTES),
+        Function::Line => record(a, b, LINE_BYTES),
+    }
+}
+
+fn of_rule<const N: usize>(rule: u8, facts: [(bool, &'static str); N]) -> Vec<Fact> {
+    facts.into_iter().map(|(holds, what)| (rule, what, holds)).collect()
+}
+
+fn length(slot: &[u8], needed: usize, name: &'static str) -> Vec<Fact> {
+    of_rule(WRONG_LENGTH, [(slot.len() != needed, name)])
+}
+
+fn tables(orders: &[u8], cells: &[u8], samples: &[u8]) -> Vec<Fact> {
+    let facts = [
+        (orders.is_empty(), "no orders"),
+        (orders.len() > 255, "over 255 orders"),
+        (!cells.len().is_multiple_of(PATTERN_BYTES), "cells of no whole pattern"),
+        (cells.len() > 100 * PATTERN_BYTES, "over 100 patterns"),
+        (!samples.len().is_multiple_of(SAMPLE_BYTES), "samples cut"),
+        (samples.len() > 99 * SAMPLE_BYTES, "over 99 samples"),
+    ];
+    of_rule(9, facts)
+}
+
+fn opening(bytes: &[u8]) -> Vec<Fact> {
+    if bytes.len() != OPENING_BYTES {
+        return Vec::new();
+    }
+    let opening = Opening::decode(bytes);
+    let facts = [
+        (opening.speed == 0, "opening speed 0"),
+        (opening.tempo < 32, "opening tempo below 32"),
+        (opening.global_volume > 64, "opening volume above 64"),
+        (opening.channels.iter().any(|channel| channel.pan > 15), "pan above 15"),
+        (opening.rate == 0, "opening rate 0"),
+        (opening.rate > 100_000, "opening rate above 100,000"),
+    ];
+    of_rule(10, facts)
+}
+
+fn state(bytes: &[u8]) -> Vec<Fact> {
+    if bytes.len() != STATE_BYTES {
+        return Vec::new();
+    }
+    let state = State::decode(bytes);
+    let mut channels = state.channels.iter();
+    let facts = [
+        (state.row > 63, "row above 63"),
+        (state.loop_start_row > 63, "loop start above 63"),
+        (state.speed == 0, "speed 0"),
+        (state.bpm < 32, "tempo below 32"),
+        (state.start > MOST_START, "start above 2^62"),
+        (state.rate == 0, "rate 0"),
+        (state.rate > 100_000, "rate above 100,000"),
+        (
+            channels.clone().any(|channel| channel.frequency.is_nan()),
+            "frequency not a number",
+        ),
+        (
+            channels.any(|channel| channel.target_frequency.is_nan()),
+            "target not a number",
+        ),
+    ];
+    of_rule(11, facts)
+}
+
+fn output(n: u32, output: &[u8]) -> Vec<Fact> {
+    let short = (output.len() as u64) < RECORD_BYTES as u64 * u64::from(n);
+    of_rule(12, [(n > 65_535, "n above 65,535"), (short, "output too short")])
+}
+
+fn record(record: &[u8], output: &[u8], least: usize) -> Vec<Fact> {
+    let facts = [
+        (record.len() < RECORD_BYTES, "record too short"),
+        (record.len() > RECORD_BYTES, "record too long"),
+        (output.len() < least, "output too short for it"),
+    ];
+    of_rule(13, facts)
+}
