@@ -31,12 +31,7 @@ fn round(work: &mut dyn FnMut()) -> f64 {
 pub fn spread(numbers: impl IntoIterator<Item = f64>) -> String {
     let mut all: Vec<f64> = numbers.into_iter().collect();
     all.sort_by(f64::total_cmp);
-    format!(
-        "{:.2} ({:.2} to {:.2})",
-        all[all.len() / 2],
-        all[0],
-        all[all.len() - 1]
-    )
+    format!("{:.2} ({:.2} to {:.2})", all[all.len() / 2], all[0], all[all.len() - 1])
 }
 
 /// The mean of column k.

@@ -41,9 +41,5 @@ fn main() -> ExitCode {
             return ExitCode::from(2);
         }
     };
-    if fine {
-        ExitCode::SUCCESS
-    } else {
-        ExitCode::FAILURE
-    }
+    if fine { ExitCode::SUCCESS } else { ExitCode::FAILURE }
 }

@@ -23,9 +23,9 @@ pub fn table() {
     println!("tune   |  bytes | library | original | library to original");
     for kind in FILES {
         let files = kind.tunes().map(|tune| writer::write(&tune));
-        let lines = files.each_ref().map(|file| {
-            best(&mut [&mut || ours(file), &mut || theirs(file)]).map(|ns| ns / 1000.0)
-        });
+        let lines = files
+            .each_ref()
+            .map(|file| best(&mut [&mut || ours(file), &mut || theirs(file)]).map(|ns| ns / 1000.0));
         println!(
             "{:6} | {:6} | {:7.1} | {:8.1} | {}",
             kind.name,

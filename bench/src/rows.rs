@@ -29,9 +29,7 @@ pub fn walk(tune: &Tune, section: u32, output: &mut [u8]) -> usize {
     let mut state = tune.open().expect("it opens");
     let mut rows = 0;
     loop {
-        let given = tune
-            .section(&mut state, section, output)
-            .expect("the state is ours");
+        let given = tune.section(&mut state, section, output).expect("the state is ours");
         rows += given.rows;
         if given.ended {
             return rows;
@@ -108,9 +106,7 @@ fn times(theirs: &tune::Tune) -> [f64; 5] {
 /// False where the records differ.
 pub fn table() -> bool {
     println!("rows: ns each, sections of {SECTION} rows");
-    println!(
-        "tune   | floor | path alone | library | original | with records | library to with records"
-    );
+    println!("tune   | floor | path alone | library | original | with records | library to with records");
     for kind in &KINDS {
         let tunes = kind.tunes();
         if !tunes.iter().all(same) {

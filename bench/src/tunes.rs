@@ -82,11 +82,7 @@ impl Kind {
 
 fn cell(random: &mut Random) -> [u8; CELL] {
     let note = random.between(1, 7) << 4 | random.between(0, 11);
-    let volume = if random.chance(50) {
-        255
-    } else {
-        random.between(0, 64)
-    };
+    let volume = if random.chance(50) { 255 } else { random.between(0, 64) };
     let effect = random.chance(50);
     let (command, info) = (random.one(&COMMANDS), random.byte());
     [

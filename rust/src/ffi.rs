@@ -6,12 +6,7 @@ use crate::Refusal;
 
 mod raw {
     unsafe extern "C" {
-        pub fn lomqashe_measure(
-            file: *const u8,
-            file_len: usize,
-            counts: *mut u8,
-            counts_len: usize,
-        ) -> u32;
+        pub fn lomqashe_measure(file: *const u8, file_len: usize, counts: *mut u8, counts_len: usize) -> u32;
         pub fn lomqashe_read(
             file: *const u8,
             file_len: usize,
@@ -50,12 +45,7 @@ mod raw {
             output: *mut u8,
             output_len: usize,
         ) -> u32;
-        pub fn lomqashe_strikes(
-            row: *const u8,
-            row_len: usize,
-            out: *mut u8,
-            out_len: usize,
-        ) -> u32;
+        pub fn lomqashe_strikes(row: *const u8, row_len: usize, out: *mut u8, out_len: usize) -> u32;
         pub fn lomqashe_line(row: *const u8, row_len: usize, out: *mut u8, out_len: usize) -> u32;
     }
 }
@@ -72,9 +62,7 @@ fn answer(number: u32) -> Result<u32, Refusal> {
 // from all others.
 
 pub fn measure(file: &[u8], counts: &mut [u8]) -> Result<u32, Refusal> {
-    answer(unsafe {
-        raw::lomqashe_measure(file.as_ptr(), file.len(), counts.as_mut_ptr(), counts.len())
-    })
+    answer(unsafe { raw::lomqashe_measure(file.as_ptr(), file.len(), counts.as_mut_ptr(), counts.len()) })
 }
 
 pub fn read(
@@ -102,13 +90,7 @@ pub fn read(
     })
 }
 
-pub fn open(
-    orders: &[u8],
-    cells: &[u8],
-    samples: &[u8],
-    opening: &[u8],
-    state: &mut [u8],
-) -> Result<u32, Refusal> {
+pub fn open(orders: &[u8], cells: &[u8], samples: &[u8], opening: &[u8], state: &mut [u8]) -> Result<u32, Refusal> {
     answer(unsafe {
         raw::lomqashe_open(
             orders.as_ptr(),
@@ -151,15 +133,11 @@ pub fn section(
 }
 
 pub fn strikes(record: &[u8], out: &mut [u8]) -> Result<u32, Refusal> {
-    answer(unsafe {
-        raw::lomqashe_strikes(record.as_ptr(), record.len(), out.as_mut_ptr(), out.len())
-    })
+    answer(unsafe { raw::lomqashe_strikes(record.as_ptr(), record.len(), out.as_mut_ptr(), out.len()) })
 }
 
 pub fn line(record: &[u8], out: &mut [u8]) -> Result<u32, Refusal> {
-    answer(unsafe {
-        raw::lomqashe_line(record.as_ptr(), record.len(), out.as_mut_ptr(), out.len())
-    })
+    answer(unsafe { raw::lomqashe_line(record.as_ptr(), record.len(), out.as_mut_ptr(), out.len()) })
 }
 
 #[cfg(test)]
@@ -188,58 +166,32 @@ mod tests {
         }
         for length in [0, 143, 145] {
             wrong(length, |opening| {
-                read(
-                    WORKED,
-                    60_000,
-                    &mut [0],
-                    &mut [0; 20],
-                    &mut [0; 10_240],
-                    opening,
-                )
+                read(WORKED, 60_000, &mut [0], &mut [0; 20], &mut [0; 10_240], opening)
             });
             let opening = vec![0; length];
             wrong(2_624, |state| open(&orders, &[], &[], &opening, state));
         }
         for length in [0, 2_623, 2_625] {
             wrong(length, |state| open(&orders, &[], &[], &[0; 144], state));
-            wrong(length, |state| {
-                section(&orders, &[], &[], state, 0, &mut [])
-            });
+            wrong(length, |state| section(&orders, &[], &[], state, 0, &mut []));
         }
     }
 
     #[test]
     fn a_wrong_length_is_told_before_any_rule() {
         wrong(11, |counts| measure(b"", counts));
-        wrong(143, |opening| {
-            read(b"", 0, &mut [], &mut [], &mut [], opening)
-        });
+        wrong(143, |opening| read(b"", 0, &mut [], &mut [], &mut [], opening));
         wrong(2_623, |state| open(&[], &[], &[], &[0; 144], state));
-        wrong(2_623, |state| {
-            section(&[], &[], &[], state, u32::MAX, &mut [])
-        });
+        wrong(2_623, |state| section(&[], &[], &[], state, u32::MAX, &mut []));
     }
 
     #[test]
     fn tables_of_other_sizes_are_rule_6() {
-        let mut tables = [
-            vec![UNTOUCHED; 2],
-            vec![UNTOUCHED; 20],
-            vec![UNTOUCHED; 10_240],
-        ];
+        let mut tables = [vec![UNTOUCHED; 2], vec![UNTOUCHED; 20], vec![UNTOUCHED; 10_240]];
         let mut opening = [UNTOUCHED; 144];
         let [orders, samples, cells] = &mut tables;
-        assert_eq!(
-            number(read(WORKED, 60_000, orders, samples, cells, &mut opening)),
-            6
-        );
-        assert!(
-            tables
-                .iter()
-                .flatten()
-                .chain(&opening)
-                .all(|&byte| byte == UNTOUCHED)
-        );
+        assert_eq!(number(read(WORKED, 60_000, orders, samples, cells, &mut opening)), 6);
+        assert!(tables.iter().flatten().chain(&opening).all(|&byte| byte == UNTOUCHED));
     }
 
     #[test]

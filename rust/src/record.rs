@@ -108,17 +108,12 @@ impl Record {
     pub fn line(&self) -> String {
         let mut out = [0; LINE_BYTES];
         let count = ffi::line(&self.0, &mut out).expect("the lengths are right");
-        out[..count as usize]
-            .iter()
-            .map(|&byte| char::from(byte))
-            .collect()
+        out[..count as usize].iter().map(|&byte| char::from(byte)).collect()
     }
 
     /// What the 32 channels do, from channel 0 on.
     pub fn channels(&self) -> [ChannelRecord; CHANNELS] {
-        std::array::from_fn(|i| {
-            ChannelRecord::decode(&self.0[HEAD_BYTES + i * CHANNEL_BYTES..][..CHANNEL_BYTES])
-        })
+        std::array::from_fn(|i| ChannelRecord::decode(&self.0[HEAD_BYTES + i * CHANNEL_BYTES..][..CHANNEL_BYTES]))
     }
 }
 

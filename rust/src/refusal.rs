@@ -36,9 +36,7 @@ impl Refusal {
             7 => "an instrument's 80 bytes run past the file",
             8 => "a packed pattern runs past the file before its 64th row ends",
             9 => "the tables do not have the sizes of a tune",
-            10 => {
-                "an opening value is out of range: speed, tempo, volume, a pan above 15, or the card rate"
-            }
+            10 => "an opening value is out of range: speed, tempo, volume, a pan above 15, or the card rate",
             11 => "the state is none that a section can go on from",
             12 => "more than 65,535 rows are asked for, or the output is too short for them",
             13 => "the record is not 536 bytes, or the output is too short for its strikes or line",

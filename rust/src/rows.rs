@@ -41,10 +41,7 @@ impl<'t> Rows<'t> {
 
     fn next_section(&mut self) {
         self.given = 0;
-        self.rows = match self
-            .tune
-            .section(&mut self.state, self.section, &mut self.records)
-        {
+        self.rows = match self.tune.section(&mut self.state, self.section, &mut self.records) {
             Ok(section) => section.rows,
             Err(refusal) => {
                 self.refusal = Some(refusal);
@@ -66,8 +63,6 @@ impl Iterator for Rows<'_> {
         }
         let bytes = &self.records[self.given * RECORD_BYTES..][..RECORD_BYTES];
         self.given += 1;
-        Some(Record::from_bytes(
-            bytes.try_into().expect("a record's bytes"),
-        ))
+        Some(Record::from_bytes(bytes.try_into().expect("a record's bytes")))
     }
 }

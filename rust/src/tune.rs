@@ -66,14 +66,7 @@ impl Tune {
         let mut samples = vec![0; counts.instruments * SAMPLE_BYTES];
         let mut cells = vec![0; counts.patterns * PATTERN_BYTES];
         let mut opening = [0; OPENING_BYTES];
-        ffi::read(
-            file,
-            rate,
-            &mut orders,
-            &mut samples,
-            &mut cells,
-            &mut opening,
-        )?;
+        ffi::read(file, rate, &mut orders, &mut samples, &mut cells, &mut opening)?;
         let opening = Opening::from_bytes(&opening);
         Ok(Tune {
             orders,
@@ -87,13 +80,7 @@ impl Tune {
     pub fn open(&self) -> Result<State, Refusal> {
         let mut state = State::blank();
         let opening = self.opening.to_bytes();
-        ffi::open(
-            &self.orders,
-            &self.cells,
-            &self.samples,
-            &opening,
-            state.as_mut_bytes(),
-        )?;
+        ffi::open(&self.orders, &self.cells, &self.samples, &opening, state.as_mut_bytes())?;
         Ok(state)
     }
 
@@ -110,21 +97,9 @@ impl Tune {
     /// assert_eq!((second.rows, second.ended, state.start()), (1, true, 18_000));
     /// # Ok::<(), lomqashe::Refusal>(())
     /// ```
-    pub fn section(
-        &self,
-        state: &mut State,
-        rows: u32,
-        output: &mut [u8],
-    ) -> Result<Section, Refusal> {
+    pub fn section(&self, state: &mut State, rows: u32, output: &mut [u8]) -> Result<Section, Refusal> {
         let state = state.as_mut_bytes();
-        let answer = ffi::section(
-            &self.orders,
-            &self.cells,
-            &self.samples,
-            state,
-            rows,
-            output,
-        )?;
+        let answer = ffi::section(&self.orders, &self.cells, &self.samples, state, rows, output)?;
         Ok(Section {
             rows: (answer & 0xFFFF) as usize,
             ended: answer >> 16 != 0,

@@ -100,10 +100,7 @@ fn help_and_version_are_on_standard_output() {
 #[test]
 fn the_drawing_has_a_slot_a_hold_and_the_seams() {
     let path = env::temp_dir().join(format!("lomqashe-{}.svg", process::id()));
-    let output = run(
-        &["--sections", "1", "--svg", path.to_str().unwrap(), WORKED],
-        b"",
-    );
+    let output = run(&["--sections", "1", "--svg", path.to_str().unwrap(), WORKED], b"");
     assert_eq!(text(&output.stdout), SHEET);
     let drawing = fs::read_to_string(&path).unwrap();
     fs::remove_file(&path).unwrap();

@@ -119,8 +119,5 @@ fn a_file_is_refused_by_the_first_rule_that_it_breaks() {
     assert_eq!(refused(&edited(97, &[0xFF, 0x0F])), 7);
     assert_eq!(refused(&WORKED[..WORKED.len() - 1]), 8);
     let counts = measure(WORKED).unwrap();
-    assert_eq!(
-        (counts.orders, counts.instruments, counts.patterns),
-        (1, 1, 1)
-    );
+    assert_eq!((counts.orders, counts.instruments, counts.patterns), (1, 1, 1));
 }

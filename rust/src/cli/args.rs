@@ -80,8 +80,6 @@ fn number(name: &str, value: OsString, least: u64, most: u64) -> Result<u64, Str
     let text = value.to_string_lossy();
     match text.parse() {
         Ok(n) if (least..=most).contains(&n) => Ok(n),
-        _ => Err(format!(
-            "{name} takes a number from {least} to {most}, not {text}"
-        )),
+        _ => Err(format!("{name} takes a number from {least} to {most}, not {text}")),
     }
 }

@@ -47,11 +47,7 @@ pub fn run(words: impl Iterator<Item = OsString>) -> ExitCode {
         Err(Trouble::Output(why)) if why.kind() == io::ErrorKind::BrokenPipe => ExitCode::SUCCESS,
         Err(trouble) => {
             eprintln!("lomqashe: {}", told(&trouble));
-            ExitCode::from(if matches!(trouble, Trouble::Refused(_)) {
-                1
-            } else {
-                2
-            })
+            ExitCode::from(if matches!(trouble, Trouble::Refused(_)) { 1 } else { 2 })
         }
     }
 }
@@ -69,9 +65,7 @@ fn answer(words: impl Iterator<Item = OsString>) -> Result<(), Trouble> {
     let mut out = BufWriter::new(io::stdout().lock());
     match args::parse(words).map_err(Trouble::Usage)? {
         Wish::Help => out.write_all(HELP.as_bytes()).map_err(Trouble::Output)?,
-        Wish::Version => {
-            writeln!(out, "lomqashe {}", env!("CARGO_PKG_VERSION")).map_err(Trouble::Output)?
-        }
+        Wish::Version => writeln!(out, "lomqashe {}", env!("CARGO_PKG_VERSION")).map_err(Trouble::Output)?,
         Wish::Sheet(args) => print(&args, &mut out)?,
     }
     out.flush().map_err(Trouble::Output)
@@ -117,7 +111,5 @@ fn input(file: Option<&Path>) -> Result<Vec<u8>, Trouble> {
 /// What the drawing is headed with: the file's own name.
 fn title(args: &Args) -> String {
     let name = args.file.as_deref().and_then(Path::file_name);
-    name.map_or("standard input".into(), |name| {
-        name.to_string_lossy().into_owned()
-    })
+    name.map_or("standard input".into(), |name| name.to_string_lossy().into_owned())
 }

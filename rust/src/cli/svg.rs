@@ -82,11 +82,7 @@ fn strips(records: &[Record]) -> Vec<Strip<'_>> {
 
 /// The title, what the book has, and what the marks mean.
 fn head(out: &mut String, book: &Book, title: &str) {
-    let ending = if book.ended {
-        "to its end"
-    } else {
-        "not to its end"
-    };
+    let ending = if book.ended { "to its end" } else { "not to its end" };
     let strikes: u64 = book
         .records
         .iter()
@@ -129,11 +125,7 @@ fn draw_card(out: &mut String, strip: &Strip) {
         );
     }
     let foot = 6.0 + CARD + 5.0;
-    let _ = writeln!(
-        out,
-        "<text y=\"{foot}\">{:.3} m</text>",
-        strip.start() as f64 / 1e6
-    );
+    let _ = writeln!(out, "<text y=\"{foot}\">{:.3} m</text>", strip.start() as f64 / 1e6);
 }
 
 /// Each row's line, its hold and its slots; a heavier line where an order begins.
@@ -169,10 +161,7 @@ fn draw_rows(out: &mut String, strip: &Strip) {
 
 fn draw_seams(out: &mut String, strip: &Strip, book: &Book) {
     for (i, &seam) in book.seams.iter().enumerate() {
-        let Some(record) = seam
-            .checked_sub(strip.first)
-            .and_then(|at| strip.records.get(at))
-        else {
+        let Some(record) = seam.checked_sub(strip.first).and_then(|at| strip.records.get(at)) else {
             continue;
         };
         let x = millimetres(record.start() - strip.start());
@@ -195,7 +184,5 @@ fn millimetres(micrometres: u64) -> f64 {
 }
 
 fn escaped(text: &str) -> String {
-    text.replace('&', "&amp;")
-        .replace('<', "&lt;")
-        .replace('>', "&gt;")
+    text.replace('&', "&amp;").replace('<', "&lt;").replace('>', "&gt;")
 }
