@@ -109,19 +109,20 @@ pub fn open_channel(o: ChannelOpening) -> Channel
 }
 
 impl Channel {
-    pub fn with_row(
+    // The channel made anew: a field that holds an enum cannot be stored.
+    fn remade(
         self,
         command: u8,
         info: u8,
         delay: TriggerOption,
         counter: u8,
-        memory: [u8; 32],
         frozen: bool,
+        vibrato: Waveform,
+        tremolo: Waveform,
     ) -> Channel
-        ensures { λ r. ⌜ r ≡ withRow self command info delay counter memory frozen ⌝ }
+        ensures { λ r. ⌜ r ≡ withTremolo (withVibrato (withRow self command info delay counter (self .«effect_memory») frozen) vibrato (self .«keep_vibrato_pos_on_new_note»)) tremolo (self .«keep_tremolo_pos_on_new_note») ⌝ }
     {
-        let vibrato_waveform = self.vibrato_waveform;
-        let tremolo_waveform = self.tremolo_waveform;
+        let effect_memory = self.effect_memory;
         Channel {
             instrument: self.instrument,
             frequency: self.frequency,
@@ -137,15 +138,15 @@ impl Channel {
             last_note: self.last_note,
             pending_delay: delay,
             glissando: self.glissando,
-            vibrato_waveform,
-            tremolo_waveform,
+            vibrato_waveform: vibrato,
+            tremolo_waveform: tremolo,
             retrig_counter: counter,
             tremor_on_counter: self.tremor_on_counter,
             tremor_off_counter: self.tremor_off_counter,
             stored_volume: self.stored_volume,
             keep_vibrato_pos_on_new_note: self.keep_vibrato_pos_on_new_note,
             keep_tremolo_pos_on_new_note: self.keep_tremolo_pos_on_new_note,
-            effect_memory: memory,
+            effect_memory,
             muted: self.muted,
             frozen,
             right_bank: self.right_bank,
@@ -155,120 +156,63 @@ impl Channel {
         }
     }
 
+    // With a row's command and info, and no delay.
+    pub fn with_row(self, command: u8, info: u8, counter: u8, frozen: bool) -> Channel
+        ensures { λ r. ⌜ r ≡ withRow self command info TriggerOption.None counter (self .«effect_memory») frozen ⌝ }
+    {
+        let vibrato = self.vibrato_waveform;
+        let tremolo = self.tremolo_waveform;
+        self.remade(
+            command,
+            info,
+            TriggerOption::None,
+            counter,
+            frozen,
+            vibrato,
+            tremolo,
+        )
+    }
+
+    // With all that is an enum.
+    fn with_enums(self, delay: TriggerOption, vibrato: Waveform, tremolo: Waveform) -> Channel
+        ensures { λ r. ⌜ r ≡ withTremolo (withVibrato (withDelay self delay) vibrato (self .«keep_vibrato_pos_on_new_note»)) tremolo (self .«keep_tremolo_pos_on_new_note») ⌝ }
+    {
+        self.remade(
+            self.command,
+            self.info,
+            delay,
+            self.retrig_counter,
+            self.frozen,
+            vibrato,
+            tremolo,
+        )
+    }
+
     pub fn with_delay(self, delay: TriggerOption) -> Channel
         ensures { λ r. ⌜ r ≡ withDelay self delay ⌝ }
     {
-        let vibrato_waveform = self.vibrato_waveform;
-        let tremolo_waveform = self.tremolo_waveform;
-        let effect_memory = self.effect_memory;
-        Channel {
-            instrument: self.instrument,
-            frequency: self.frequency,
-            sample_pos: self.sample_pos,
-            volume: self.volume,
-            pan: self.pan,
-            active: self.active,
-            target_frequency: self.target_frequency,
-            command: self.command,
-            info: self.info,
-            vibrato_pos: self.vibrato_pos,
-            tremolo_pos: self.tremolo_pos,
-            last_note: self.last_note,
-            pending_delay: delay,
-            glissando: self.glissando,
-            vibrato_waveform,
-            tremolo_waveform,
-            retrig_counter: self.retrig_counter,
-            tremor_on_counter: self.tremor_on_counter,
-            tremor_off_counter: self.tremor_off_counter,
-            stored_volume: self.stored_volume,
-            keep_vibrato_pos_on_new_note: self.keep_vibrato_pos_on_new_note,
-            keep_tremolo_pos_on_new_note: self.keep_tremolo_pos_on_new_note,
-            effect_memory,
-            muted: self.muted,
-            frozen: self.frozen,
-            right_bank: self.right_bank,
-            adlib: self.adlib,
-            opl_voice: self.opl_voice,
-            voice_global_vol: self.voice_global_vol,
-        }
+        let vibrato = self.vibrato_waveform;
+        let tremolo = self.tremolo_waveform;
+        self.with_enums(delay, vibrato, tremolo)
     }
 
     pub fn with_vibrato(self, waveform: Waveform, keeps: bool) -> Channel
         ensures { λ r. ⌜ r ≡ withVibrato self waveform keeps ⌝ }
     {
-        let pending_delay = self.pending_delay;
-        let tremolo_waveform = self.tremolo_waveform;
-        let effect_memory = self.effect_memory;
-        Channel {
-            instrument: self.instrument,
-            frequency: self.frequency,
-            sample_pos: self.sample_pos,
-            volume: self.volume,
-            pan: self.pan,
-            active: self.active,
-            target_frequency: self.target_frequency,
-            command: self.command,
-            info: self.info,
-            vibrato_pos: self.vibrato_pos,
-            tremolo_pos: self.tremolo_pos,
-            last_note: self.last_note,
-            pending_delay,
-            glissando: self.glissando,
-            vibrato_waveform: waveform,
-            tremolo_waveform,
-            retrig_counter: self.retrig_counter,
-            tremor_on_counter: self.tremor_on_counter,
-            tremor_off_counter: self.tremor_off_counter,
-            stored_volume: self.stored_volume,
-            keep_vibrato_pos_on_new_note: keeps,
-            keep_tremolo_pos_on_new_note: self.keep_tremolo_pos_on_new_note,
-            effect_memory,
-            muted: self.muted,
-            frozen: self.frozen,
-            right_bank: self.right_bank,
-            adlib: self.adlib,
-            opl_voice: self.opl_voice,
-            voice_global_vol: self.voice_global_vol,
-        }
+        let delay = self.pending_delay;
+        let tremolo = self.tremolo_waveform;
+        let mut c = self.with_enums(delay, waveform, tremolo);
+        c.keep_vibrato_pos_on_new_note = keeps;
+        c
     }
 
     pub fn with_tremolo(self, waveform: Waveform, keeps: bool) -> Channel
         ensures { λ r. ⌜ r ≡ withTremolo self waveform keeps ⌝ }
     {
-        let pending_delay = self.pending_delay;
-        let vibrato_waveform = self.vibrato_waveform;
-        let effect_memory = self.effect_memory;
-        Channel {
-            instrument: self.instrument,
-            frequency: self.frequency,
-            sample_pos: self.sample_pos,
-            volume: self.volume,
-            pan: self.pan,
-            active: self.active,
-            target_frequency: self.target_frequency,
-            command: self.command,
-            info: self.info,
-            vibrato_pos: self.vibrato_pos,
-            tremolo_pos: self.tremolo_pos,
-            last_note: self.last_note,
-            pending_delay,
-            glissando: self.glissando,
-            vibrato_waveform,
-            tremolo_waveform: waveform,
-            retrig_counter: self.retrig_counter,
-            tremor_on_counter: self.tremor_on_counter,
-            tremor_off_counter: self.tremor_off_counter,
-            stored_volume: self.stored_volume,
-            keep_vibrato_pos_on_new_note: self.keep_vibrato_pos_on_new_note,
-            keep_tremolo_pos_on_new_note: keeps,
-            effect_memory,
-            muted: self.muted,
-            frozen: self.frozen,
-            right_bank: self.right_bank,
-            adlib: self.adlib,
-            opl_voice: self.opl_voice,
-            voice_global_vol: self.voice_global_vol,
-        }
+        let delay = self.pending_delay;
+        let vibrato = self.vibrato_waveform;
+        let mut c = self.with_enums(delay, vibrato, waveform);
+        c.keep_tremolo_pos_on_new_note = keeps;
+        c
     }
 }

@@ -4,6 +4,7 @@ use lib.Ieee.{div, ofInt, eq}
 use Rattle.laws.specs.Entries.{every}
 use Rattle.tune.specs.Cells.{rowCells, cellOf}
 use Rattle.tune.specs.Samples.{sampleOf}
+use Rattle.row_path.specs.First.{firstPath}
 use Rattle.row_path.specs.Orders.{skipFrom, skipped, patternAt}
 use Rattle.row_path.specs.Scan.{scanRow, scanLoop, scanInfo, special, specialAt, heard, scanned, firstScan}
 use Rattle.row_path.specs.Loops.{scoped, again, requested, looped}
@@ -20,7 +21,6 @@ use Rattle.channel.specs.Memory.{resumes, hasMemory, slotOf, recalled, stored, 
 use Rattle.channel.specs.Play.{loaded, slidBack, noted, volumed, volumedAfter, playCell}
 use Rattle.channel.specs.Commands.{commanded}
 use Rattle.channel.specs.Row.{delivered, relatched, finished, channelEntered}
-use Rattle.section.specs.Open.{firstPath}
 use Rattle.examples.specs.Marked.{walked, pattern, rowsOf, endsAt, after, examples}
 
 pub marked : T (every (λ i b. b) 0 examples)

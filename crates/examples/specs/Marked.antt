@@ -6,8 +6,7 @@ use lib.Dec.{eqb}
 use lib.Ieee.{fin, eq}
 use lib.IntN.{pos}
 use lib.ListN.{replicate, set}
-use Rattle.tune.specs.declared.opening.ChannelOpening.{ChannelOpening}
-use Rattle.tune.specs.declared.opening.Opening.{Opening}
+use Rattle.row_path.specs.First.{firstPath}
 use Rattle.row_path.specs.Leave.{lengthOf}
 use Rattle.row_path.specs.Walk.{Walk, pathWalk}
 use Rattle.pitch.specs.Frequency.{noteFrequency}
@@ -16,26 +15,11 @@ use Rattle.channel.specs.Opening.{openedChannel}
 use Rattle.channel.specs.Row.{channelEntered}
 use Rattle.channel.specs.Set.{withVolume}
 use Rattle.channel.specs.declared.state.Channel.{Channel}
-use Rattle.section.specs.Open.{firstPath}
-
-abbrev pub centred : ChannelOpening
-centred = record { pan = 8; muted = false; «right_bank» = false; adlib = false }
-
-abbrev pub opening : Opening
-opening =
-    record {
-      speed = 6;
-      tempo = 125;
-      «global_volume» = 64;
-      rate = 60000;
-      «amiga_limits» = false;
-      «fast_slides» = false;
-      channels = replicate 32 centred;
-    }
+use Rattle.section.proofs.Ordinary.{centred, ordinary}
 
 -- up to n rows of the path machine from Open
 unfoldable pub walked : List ℕ → List ℕ → ℕ → Walk
-walked orders cells n = pathWalk orders cells n (firstPath opening)
+walked orders cells n = pathWalk orders cells n (firstPath (ordinary .speed) (ordinary .tempo) (ordinary .rate))
 
 -- one pattern with a command and an info in channel 0 of a row
 unfoldable pub pattern : ℕ → ℕ → ℕ → List ℕ

@@ -6,3 +6,4 @@ pub mod Bits
 pub mod MaskBits
 pub mod Parts
 pub mod Pieces
+pub mod Turns

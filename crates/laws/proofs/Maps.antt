@@ -57,6 +57,10 @@ module _ {X Y : Type 0} (f : X → Y) where
   pub filled-next : (m : List X) (l : List Y) (i : ℕ) (d : X) → i < length m → i < length l → take i l ≡ map f (take i m) → take (i + 1) (set l i (f (getD m i d))) ≡ map f (take (i + 1) m)
   filled-next m l i d h k e = rw (add-one, take-suc-set l i (f (getD m i d)) k, e, take-suc m i d h, map-append)
 
+  -- all are made
+  pub filled-done : (m : List X) (l : List Y) (i : ℕ) → i ≡ length m → i ≡ length l → take i l ≡ map f (take i m) → l ≡ map f m
+  filled-done m l i h k e = sym (take-length l) ∙ rw (← k) (e ∙ rw (h, take-length m))
+
   -- an entry of a mapped list, read and stored
   pub mapped-at : (l : List X) (i : ℕ) (d : X) (e : Y) → i < length l → getD (map f l) i e ≡ f (getD l i d)
   mapped-at [] i d e h = absurd (omega arith)

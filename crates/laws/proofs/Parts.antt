@@ -3,7 +3,7 @@ use mathlib.Core.Path.{_≡_, sym, ap, _∙_}
 use mathlib.Core.List.{List, _++_, append-assoc, append-nil}
 use Prim.Native.Nat.{ℕ, _+_, _-_, _≤_}
 use native.Mathlib.Omega.{arith}
-use native.Mathlib.Nat.{add-sub-cancel-left}
+use native.Mathlib.Nat.{add-assoc, add-sub-cancel-left}
 use lib.ListN.{length, take, drop, length-append, length-drop, drop-of-length-le}
 use lib.Seq.{take-at, drop-at, drop-drop, take-length, take-take, take-append-le, length-take-le}
 use borrow.Rule.Slice.PartMut.{putMid}
@@ -51,11 +51,22 @@ module _ {X : Type 0} where
       let b : a ≤ length l = omega arith in
       rw (length-append, length-append, length-take-le a l b, e, length-drop) (omega arith)
 
-  -- a list of n + m elements, written by two parts
-  pub two-parts : (l : List X) {xs h v x y : List X} (n m : ℕ) → length l ≡ n + m → length h ≡ n → xs ≡ putMid 0 n l x → x ≡ h → y ≡ v → putMid n (n + m - n) xs y ≡ h ++ v
-  two-parts l {h = h} {v = v} n m e g f q r =
-      let s : length l ≤ n + m = omega arith in
-      part-grows h l n m g (f ∙ rw q) r ∙ rw (drop-of-length-le l s, append-nil)
+  -- what is put leaves the length, so it has the size of its place
+  pub put-size : (l p : List X) (a m : ℕ) → a + m ≤ length l → length (take a l ++ (p ++ drop (a + m) l)) ≡ length l → length p ≡ m
+  put-size l p a m h e =
+      let b : a ≤ length l = omega arith in
+      omega (arith, length-drop (a + m) l, simp (length-append, length-take-le a l b) at e)
+
+  -- what is put at a place, by its size
+  pub put-as : (l : List X) {b p xs : List X} (a m : ℕ) → length b ≡ m → b ≡ p → xs ≡ take a l ++ (b ++ drop (a + length b) l) → xs ≡ take a l ++ (p ++ drop (a + m) l)
+  put-as l {b = b} a m n e f =
+      f ∙ ap (λ (k : ℕ). take a l ++ (b ++ drop (a + k) l)) n ∙ ap (λ z. take a l ++ (z ++ drop (a + m) l)) e
+
+  -- the m elements from a on are p already, and the next k are put, which makes n
+  pub put-next : (l p : List X) {b y xs ys : List X} (a m k n : ℕ) → m + k ≡ n → a ≤ length l → length p ≡ m → length b ≡ k → b ≡ y → xs ≡ take a l ++ (p ++ drop (a + m) l)
+      → ys ≡ take (a + m) xs ++ (b ++ drop (a + m + length b) xs) → ys ≡ take a l ++ ((p ++ y) ++ drop (a + n) l)
+  put-next l p {y = y} {xs = xs} a m k n s h e i g f q =
+      put-as xs (a + m) k i g q ∙ part-more l p y a m k h e f ∙ ap (λ (j : ℕ). take a l ++ ((p ++ y) ++ drop j l)) (add-assoc a m k ∙ ap (λ (j : ℕ). a + j) s)
 
   -- a copy over the whole
   pub copied-whole : (s l : List X) → length l ≡ length s → take (length s) s ++ drop (length s) l ≡ s

@@ -5,7 +5,7 @@ use Prim.Native.Nat.{ℕ, zero, suc, _+_, _*_, _-_, _≤_, _<_}
 use native.Mathlib.Nat.{add-zero, suc-mul, zero-mul, mul-one}
 use native.Mathlib.Numerals.{add-one}
 use native.Mathlib.Omega.{arith}
-use lib.ListN.{length, take, drop, getD, set, length-append, List·getD-append}
+use lib.ListN.{length, take, drop, getD, set, length-append, drop-of-length-le, List·getD-append}
 use lib.Seq.{take-at, take-all, drop-cons, set-at, getD-at, append-snoc}
 use borrow.Rule.Slice.PartMut.{putMid}
 use Rattle.laws.specs.Entries.{pieces, tabulate}
@@ -30,6 +30,10 @@ module _ {X : Type 0} (f : ℕ → List X) where
     where
       next : (k : ℕ) → k * size + size ≡ (k + 1) * size
       next k = rw (add-one, suc-mul)
+
+  -- all n are written, and the list has no more
+  pub pieces-done : (size : ℕ) (l : List X) {xs : List X} (k n : ℕ) → k ≡ n → length l ≤ k * size → xs ≡ pieces k f ++ drop (k * size) l → xs ≡ pieces n f
+  pieces-done size l k n h b e = e ∙ rw (drop-of-length-le l b, append-nil, h)
 
   -- a list that begins with the first k pieces, and the next one is put
   pub begins-more : (size : ℕ) → ((k : ℕ) → length (f k) ≡ size) → (k : ℕ) (l : List X) {l' : List X} → k * size + size ≤ length l → take (k * size) l ≡ pieces k f → l' ≡ take (k * size) l ++ (f k ++ drop (k * size + size) l) → (length l' ≡ length l) × (take ((k + 1) * size) l' ≡ pieces (k + 1) f)

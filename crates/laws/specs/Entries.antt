@@ -26,3 +26,8 @@ tabulate n f = pieces n (λ k. f k ∷ [])
 unfoldable pub some : ℕ → (ℕ → Bool) → Bool
 some zero f = false
 some (suc n) f = some n f || f n
+
+-- the bytes of each entry, one behind the other
+unfoldable pub inTurn : {X : Type 0} → (X → List ℕ) → List X → List ℕ
+inTurn f [] = []
+inTurn f (x ∷ xs) = f x ++ inTurn f xs

@@ -15,12 +15,12 @@ use Rattle.channel.specs.declared.state.TriggerOption.{TriggerOption}
 use Rattle.channel.specs.declared.state.TriggerOption.the-variants.{None, Some}
 use Rattle.channel.specs.declared.state.Waveform.{Waveform}
 use Rattle.channel.specs.declared.state.Waveform.the-variants.{Sine, RampDown, Square, Random}
-use Rattle.section.specs.Records.{bytesOf, flag}
+use Rattle.tune.proofs.Little.{little-back}
+use Rattle.tune.specs.Numbers.{bytesOf, flag}
 use Rattle.lomqashe.specs.Bytes.{isSet}
 use Rattle.lomqashe.specs.Channels.{waveformByte, waveformOf, delayBytes, floatBytes, fieldBytes, channelBytes, channelOf}
 use Rattle.lomqashe.specs.Typed.{TypedChannel}
 use Rattle.lomqashe.proofs.Delays.{delay-listed}
-use Rattle.lomqashe.proofs.Little.{four-back, eight-back}
 use Rattle.lomqashe.proofs.ChannelRead.{channel-read}
 
 pub flag-kept : (b : Bool) → b ≡ isSet (flag b)
@@ -68,9 +68,9 @@ channel-kept c h =
     let m : length (c .«effect_memory») ≤ 32 = omega (arith, h .memory) in
     ap channelOf (channel-listed c)
     ∙ sym (channel-read s
-    (single-kept (c .frequency) _ (four-back s 0 (toBits binary32 (c .frequency)) (toBits-lt binary32 (c .frequency) (h .frequency)) refl refl refl refl) (ofBits-toBits binary32 (c .frequency) (h .frequency)))
-    (single-kept (c .«target_frequency») _ (four-back s 4 (toBits binary32 (c .«target_frequency»)) (toBits-lt binary32 (c .«target_frequency») (h .target)) refl refl refl refl) (ofBits-toBits binary32 (c .«target_frequency») (h .target)))
-    (double-kept (c .«sample_pos») _ (eight-back s 8 (toBits binary64 (c .«sample_pos»)) (toBits-lt binary64 (c .«sample_pos») (h .position)) refl refl refl refl refl refl refl refl) (ofBits-toBits binary64 (c .«sample_pos») (h .position)))
+    (single-kept (c .frequency) _ (little-back 4 s _ 0 (toBits binary32 (c .frequency)) (toBits-lt binary32 (c .frequency) (h .frequency)) refl) (ofBits-toBits binary32 (c .frequency) (h .frequency)))
+    (single-kept (c .«target_frequency») _ (little-back 4 s _ 4 (toBits binary32 (c .«target_frequency»)) (toBits-lt binary32 (c .«target_frequency») (h .target)) refl) (ofBits-toBits binary32 (c .«target_frequency») (h .target)))
+    (double-kept (c .«sample_pos») _ (little-back 8 s _ 8 (toBits binary64 (c .«sample_pos»)) (toBits-lt binary64 (c .«sample_pos») (h .position)) refl) (ofBits-toBits binary64 (c .«sample_pos») (h .position)))
     (delay-kept (c .«pending_delay»))
     (waveform-kept (c .«vibrato_waveform»))
     (waveform-kept (c .«tremolo_waveform»))

@@ -1,9 +1,12 @@
--- How many bytes the parts have. Assumes nothing.
-use mathlib.Core.Path.{_≡_, refl}
-use lib.ListN.{length}
+-- How many bytes the parts have, and what stands behind a head. Assumes nothing.
+use Prim.Native.Nat.{ℕ, _+_}
+use mathlib.Core.Path.{_≡_, refl, ap, _∙_}
+use mathlib.Core.List.{List, _++_}
+use lib.ListN.{length, take, drop}
+use lib.Seq.{take-at}
 use Rattle.tune.specs.declared.opening.Opening.{Opening}
 use Rattle.channel.specs.declared.state.Channel.{Channel}
-use Rattle.section.specs.Records.{bytesOf}
+use Rattle.tune.specs.Numbers.{bytesOf}
 use Rattle.lomqashe.specs.Openings.{levelBytes}
 use Rattle.lomqashe.specs.Channels.{floatBytes}
 
@@ -14,3 +17,7 @@ level-length o = refl
 pub float-length : (c : Channel) → length (floatBytes c) ≡ 16
 unfolding floatBytes bytesOf
 float-length c = refl
+
+-- a head of n bytes is put first, and the bytes behind it are v
+pub behind : (l h v : List ℕ) {xs ys : List ℕ} (n : ℕ) → length h ≡ n → xs ≡ take 0 l ++ (h ++ drop (0 + n) l) → ys ≡ take n xs ++ v → ys ≡ h ++ v
+behind l h v n e f g = g ∙ ap (λ (x : List ℕ). take n x ++ v) f ∙ ap (λ (x : List ℕ). x ++ v) (take-at h (drop (0 + n) l) n e)

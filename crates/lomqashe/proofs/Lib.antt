@@ -5,10 +5,8 @@ pub mod Delays
 pub mod Given
 pub mod Joined
 pub mod Lengths
-pub mod Little
 pub mod Nans
 pub mod OpeningKept
 pub mod Reread
 pub mod Rows
 pub mod StateKept
-pub mod Turns

@@ -6,18 +6,17 @@ use mathlib.Core.List.{List, [], _++_}
 use native.Mathlib.Nat.{add-zero}
 use lib.ListN.{length, getD, drop, length-append}
 use lib.Seq.{drop-at, drop-drop, getD-drop}
-use Rattle.laws.specs.Entries.{tabulate}
-use Rattle.tune.specs.Numbers.{littleAt}
+use Rattle.laws.specs.Entries.{tabulate, inTurn}
+use Rattle.laws.proofs.Turns.{turn-drop, turn-length, tabulated}
+use Rattle.tune.proofs.Little.{little-back}
+use Rattle.tune.specs.Numbers.{littleAt, bytesOf}
 use Rattle.tune.specs.declared.opening.ChannelOpening.{ChannelOpening}
 use Rattle.tune.specs.declared.opening.Opening.{Opening}
-use Rattle.section.specs.Records.{bytesOf}
-use Rattle.lomqashe.specs.Bytes.{isSet, inTurn}
+use Rattle.lomqashe.specs.Bytes.{isSet}
 use Rattle.lomqashe.specs.Openings.{settingBytes, settingAt, levelBytes, openingBytes, openingAt}
 use Rattle.lomqashe.specs.Typed.{TypedOpening}
 use Rattle.lomqashe.proofs.ChannelKept.{flag-kept}
 use Rattle.lomqashe.proofs.Lengths.{level-length}
-use Rattle.lomqashe.proofs.Little.{four-back}
-use Rattle.lomqashe.proofs.Turns.{turn-drop, turn-length, tabulated}
 
 abbrev setting : ℕ → Bool → Bool → Bool → ChannelOpening
 setting pan muted right adlib = record { pan = pan; muted = muted; «right_bank» = right; adlib = adlib }
@@ -64,7 +63,7 @@ unfolding openingBytes levelBytes bytesOf
 opening-kept o h =
     let s = openingBytes o in
     sym (opening-read s
-    (four-back s 8 (o .rate) (h .rate) refl refl refl refl)
+    (little-back 4 s _ 8 (o .rate) (h .rate) refl)
     (flag-kept (o .«amiga_limits»))
     (flag-kept (o .«fast_slides»))
     (sym (ap (λ (n : ℕ). tabulate n (λ i. settingAt s (16 + i * 4))) (sym (h .count)) ∙ tabulated (λ i. settingAt s (16 + i * 4)) (o .channels) none (part-kept o))))

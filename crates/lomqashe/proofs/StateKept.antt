@@ -5,22 +5,21 @@ use mathlib.Core.Bool.{Bool}
 use mathlib.Core.List.{List, [], _++_, append-assoc}
 use lib.ListN.{length, getD, take, drop, length-append}
 use lib.Seq.{take-at, drop-at, drop-drop}
-use Rattle.laws.specs.Entries.{tabulate}
-use Rattle.tune.specs.Numbers.{littleAt}
+use Rattle.laws.specs.Entries.{tabulate, inTurn}
+use Rattle.laws.proofs.Turns.{turn-drop, turn-length, tabulated}
+use Rattle.tune.proofs.Little.{little-back}
+use Rattle.tune.specs.Numbers.{littleAt, bytesOf}
 use Rattle.row_path.specs.Option.{orBefore}
 use Rattle.row_path.specs.declared.option.ByteOption.{ByteOption}
 use Rattle.row_path.specs.declared.option.ByteOption.the-variants.{None, Some}
 use Rattle.row_path.specs.declared.machine.Path.{Path}
 use Rattle.channel.specs.declared.state.Channel.{Channel}
-use Rattle.section.specs.Records.{bytesOf}
 use Rattle.section.specs.declared.state.State.{State}
-use Rattle.lomqashe.specs.Bytes.{isSet, inTurn}
+use Rattle.lomqashe.specs.Bytes.{isSet}
 use Rattle.lomqashe.specs.Channels.{channelBytes, channelOf}
 use Rattle.lomqashe.specs.States.{present, optionOf, headBytes, stateBytes, pathOf, stateOf}
 use Rattle.lomqashe.specs.Typed.{Typed}
 use Rattle.lomqashe.proofs.ChannelKept.{flag-kept, channel-kept, channel-size}
-use Rattle.lomqashe.proofs.Little.{four-back, eight-back}
-use Rattle.lomqashe.proofs.Turns.{turn-drop, turn-length, tabulated}
 
 option-kept : (o : ByteOption) → o ≡ optionOf (present o) (orBefore o 0)
 option-kept None = refl
@@ -57,8 +56,8 @@ path-kept s h =
     (option-kept (s .path .«pattern_loop» .count))
     (flag-kept (s .path .hold .held))
     (flag-kept (s .path .ended))
-    (four-back b 16 (s .path .clock .rate) (h .rate) refl refl refl refl)
-    (eight-back b 24 (s .path .clock .start) (h .start) refl refl refl refl refl refl refl refl)
+    (little-back 4 b _ 16 (s .path .clock .rate) (h .rate) refl)
+    (little-back 8 b _ 24 (s .path .clock .start) (h .start) refl)
     (infos-kept (headBytes s) (s .path .«s_info») (inTurn channelBytes (s .channels)) (head-length s) (h .infos)))
 
 -- any channel, for entries that are not there

@@ -13,7 +13,7 @@ use Rattle.s3m.specs.declared.header.Counts.{Counts}
 use Rattle.s3m.specs.declared.ReadAnswer.{ReadAnswer}
 use Rattle.tune.specs.declared.opening.Opening.{Opening}
 use Rattle.section.specs.Tables.{Tables}
-use Rattle.section.specs.Records.{bytesOf, flag}
+use Rattle.tune.specs.Numbers.{bytesOf, flag}
 use Rattle.section.specs.Open.{freshState, openRule}
 use Rattle.section.specs.Section.{sectionOf, sectioned, outputAfter}
 use Rattle.section.specs.declared.state.Sectioned.{Sectioned}

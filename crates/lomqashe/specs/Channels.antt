@@ -9,13 +9,12 @@ use lib.Dec.{eqb}
 use lib.Ieee.{binary32, binary64, ofBits, toBits}
 use lib.ListN.{getD, take, drop}
 use Rattle.laws.specs.Choice.{pick}
-use Rattle.tune.specs.Numbers.{littleAt}
+use Rattle.tune.specs.Numbers.{littleAt, bytesOf, flag}
 use Rattle.channel.specs.declared.state.Channel.{Channel}
 use Rattle.channel.specs.declared.state.TriggerOption.{TriggerOption}
 use Rattle.channel.specs.declared.state.TriggerOption.the-variants.{None, Some}
 use Rattle.channel.specs.declared.state.Waveform.{Waveform}
 use Rattle.channel.specs.declared.state.Waveform.the-variants.{Sine, RampDown, Square, Random}
-use Rattle.section.specs.Records.{bytesOf, flag}
 use Rattle.lomqashe.specs.Bytes.{isSet}
 
 -- 0 sine, 1 ramp down, 2 square, 3 random

@@ -3,12 +3,11 @@
 use Prim.Native.Nat.{ℕ, _+_, _*_}
 use mathlib.Core.List.{List, [], _∷_, _++_}
 use lib.ListN.{getD}
-use Rattle.laws.specs.Entries.{tabulate}
-use Rattle.tune.specs.Numbers.{littleAt}
+use Rattle.laws.specs.Entries.{tabulate, inTurn}
+use Rattle.tune.specs.Numbers.{littleAt, bytesOf, flag}
 use Rattle.tune.specs.declared.opening.ChannelOpening.{ChannelOpening}
 use Rattle.tune.specs.declared.opening.Opening.{Opening}
-use Rattle.section.specs.Records.{bytesOf, flag}
-use Rattle.lomqashe.specs.Bytes.{isSet, inTurn}
+use Rattle.lomqashe.specs.Bytes.{isSet}
 
 abbrev pub openingSize : ℕ
 openingSize = 144

@@ -6,15 +6,14 @@ use mathlib.Core.List.{List, _∷_, _++_}
 use lib.Dec.{eqb}
 use lib.ListN.{getD, take, drop}
 use Rattle.laws.specs.Choice.{pick}
-use Rattle.laws.specs.Entries.{tabulate}
-use Rattle.tune.specs.Numbers.{littleAt}
+use Rattle.laws.specs.Entries.{tabulate, inTurn}
+use Rattle.tune.specs.Numbers.{littleAt, bytesOf, flag}
 use Rattle.row_path.specs.Option.{orBefore}
 use Rattle.row_path.specs.declared.option.ByteOption.{ByteOption}
 use Rattle.row_path.specs.declared.option.ByteOption.the-variants.{None, Some}
 use Rattle.row_path.specs.declared.machine.Path.{Path}
-use Rattle.section.specs.Records.{bytesOf, flag}
 use Rattle.section.specs.declared.state.State.{State}
-use Rattle.lomqashe.specs.Bytes.{isSet, inTurn}
+use Rattle.lomqashe.specs.Bytes.{isSet}
 use Rattle.lomqashe.specs.Channels.{channelBytes, channelOf}
 
 abbrev pub stateSize : ℕ

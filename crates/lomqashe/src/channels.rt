@@ -5,26 +5,28 @@
 // note, 39 muted, 40 frozen, 41 right bank, 42 AdLib, 43 AdLib voice, 44 voice global volume, 45 to 47 spare, 48 to 79
 // effect memory.
 ghost use mathlib.Core.Path.{_≡_};
-ghost use Prim.Native.Nat.{_+_, _*_};
+ghost use Prim.Native.Nat.{_+_, _*_, _≤_};
+ghost use mathlib.Core.List.{_++_};
 ghost use lib.ListN.{length, take, drop};
-ghost use Rattle.laws.specs.Entries.{tabulate};
-ghost use Rattle.lomqashe.specs.Bytes.{inTurn};
+ghost use Rattle.laws.specs.Entries.{tabulate, inTurn};
 ghost use Rattle.lomqashe.specs.Channels.{waveformByte, waveformOf, delayBytes, delayAt, floatBytes, fieldBytes, channelBytes, channelOf};
 use crate::floats::double_bits;
 use crate::floats::double_of;
 use crate::floats::single_bits;
 use crate::floats::single_of;
 use crate::numbers::bytes_at;
-use crate::numbers::flag_of;
 use crate::numbers::is_set;
-use crate::numbers::put_both;
+use crate::numbers::put_block;
 use channel::state::Channel;
 use channel::state::PendingTrigger;
 use channel::state::TriggerOption;
 use channel::state::Waveform;
+use tune::numbers::flag_of;
 use tune::numbers::u32_at;
+use tune::numbers::u32_bytes;
 use tune::numbers::u64_at;
-use tune::parts::copy_whole;
+use tune::numbers::u64_bytes;
+use tune::parts::put_at;
 
 // 0 sine, 1 ramp down, 2 square, 3 random.
 fn waveform_byte(w: Waveform) -> u8
@@ -79,39 +81,26 @@ fn delay_of(part: &[u8]) -> TriggerOption
 fn float_bytes(c: Channel) -> [u8; 16]
     ensures { λ r. ⌜ r ≡ floatBytes c ⌝ }
 {
-    let f0 = single_bits(c.frequency);
-    let f1 = f0 / 256;
-    let f2 = f1 / 256;
-    let f3 = f2 / 256;
-    let t0 = single_bits(c.target_frequency);
-    let t1 = t0 / 256;
-    let t2 = t1 / 256;
-    let t3 = t2 / 256;
-    let s0 = double_bits(c.sample_pos);
-    let s1 = s0 / 256;
-    let s2 = s1 / 256;
-    let s3 = s2 / 256;
-    let s4 = s3 / 256;
-    let s5 = s4 / 256;
-    let s6 = s5 / 256;
-    let s7 = s6 / 256;
+    let f = u32_bytes(single_bits(c.frequency));
+    let t = u32_bytes(single_bits(c.target_frequency));
+    let p = u64_bytes(double_bits(c.sample_pos));
     [
-        (f0 % 256) as u8,
-        (f1 % 256) as u8,
-        (f2 % 256) as u8,
-        (f3 % 256) as u8,
-        (t0 % 256) as u8,
-        (t1 % 256) as u8,
-        (t2 % 256) as u8,
-        (t3 % 256) as u8,
-        (s0 % 256) as u8,
-        (s1 % 256) as u8,
-        (s2 % 256) as u8,
-        (s3 % 256) as u8,
-        (s4 % 256) as u8,
-        (s5 % 256) as u8,
-        (s6 % 256) as u8,
-        (s7 % 256) as u8,
+        f[0],
+        f[1],
+        f[2],
+        f[3],
+        t[0],
+        t[1],
+        t[2],
+        t[3],
+        p[0],
+        p[1],
+        p[2],
+        p[3],
+        p[4],
+        p[5],
+        p[6],
+        p[7],
     ]
 }
 
@@ -159,34 +148,28 @@ fn field_bytes(c: Channel) -> [u8; 32]
     ]
 }
 
-fn put_floats(part: &mut [u8], c: Channel)
-    requires { ⌜ length (now part) ≡ 16 ⌝ }
-    ensures { λ _. ⌜ now (part .exit) ≡ floatBytes c ⌝ }
+// Writes a channel at a place.
+fn put_channel(out: &mut [u8], at: usize, c: Channel)
+    requires { ⌜ at + 80 ≤ length (now out) ⌝ }
+    ensures { λ _. ⌜ now (out .exit) ≡ take at (now (out .entry)) ++ (channelBytes c ++ drop (at + 80) (now (out .entry))) ⌝ }
 {
     let floats = float_bytes(c);
-    copy_whole(part, &floats);
-}
-
-fn put_channel(part: &mut [u8], c: Channel)
-    requires { ⌜ length (now part) ≡ 80 ⌝ }
-    ensures { λ _. ⌜ now (part .exit) ≡ channelBytes c ⌝ }
-{
     let fields = field_bytes(c);
     let memory = c.effect_memory;
-    put_floats(&mut part[0..16], c);
-    put_both(&mut part[16..80], fields, memory);
+    put_at(out, at, &floats);
+    put_block(out, at + 16, fields);
+    put_block(out, at + 48, memory);
 }
 
-// 32 channels, one behind the other.
-pub fn put_channels(out: &mut [u8], channels: [Channel; 32])
-    requires { ⌜ length (now out) ≡ 2560 ⌝ }
-    ensures { λ _. ⌜ now (out .exit) ≡ inTurn channelBytes channels ⌝ }
+// 32 channels behind a state's head, one behind the other.
+pub fn put_channels(state: &mut [u8], channels: [Channel; 32])
+    requires { ⌜ length (now state) ≡ 2624 ⌝ }
+    ensures { λ _. ⌜ now (state .exit) ≡ take 64 (now (state .entry)) ++ inTurn channelBytes channels ⌝ }
 {
     let mut i: usize = 0;
     while i < 32 {
         let c = channels[i];
-        let at = i * 80;
-        put_channel(&mut out[at..at + 80], c);
+        put_channel(state, 64 + i * 80, c);
         i += 1;
     }
 }

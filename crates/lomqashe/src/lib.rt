@@ -12,7 +12,7 @@ ghost use Prim.Native.Nat.{_+_, _*_, _<_};
 ghost use lib.ListN.{length};
 ghost use Rattle.s3m.specs.Answers.{readNumber, ordersAfter, samplesAfter, cellsAfter};
 ghost use Rattle.section.specs.Tables.{lent};
-ghost use Rattle.section.specs.Records.{flag};
+ghost use Rattle.tune.specs.Numbers.{flag};
 ghost use Rattle.section.specs.Open.{freshState};
 ghost use Rattle.sheet.specs.Lines.{lineAnswer, lineOutput};
 ghost use Rattle.lomqashe.specs.Openings.{openingAt};
@@ -32,6 +32,7 @@ use sheet::line::line;
 use sheet::strikes::strikes;
 use state::put_state;
 use state::state_of;
+use tune::numbers::u64_bytes;
 use tune::opening::Opening;
 use tune::parts::copy_whole;
 
@@ -44,31 +45,26 @@ fn refused(rule: u8) -> u32
     rule as u32 * 0x100_0000
 }
 
+// The low 32 bits of each number.
 fn count_bytes(c: Counts) -> [u8; 12]
     ensures { λ r. ⌜ r ≡ countBytes c ⌝ }
 {
-    let o1 = c.orders / 256;
-    let o2 = o1 / 256;
-    let o3 = o2 / 256;
-    let i1 = c.instruments / 256;
-    let i2 = i1 / 256;
-    let i3 = i2 / 256;
-    let p1 = c.patterns / 256;
-    let p2 = p1 / 256;
-    let p3 = p2 / 256;
+    let o = u64_bytes(c.orders as u64);
+    let i = u64_bytes(c.instruments as u64);
+    let p = u64_bytes(c.patterns as u64);
     [
-        (c.orders % 256) as u8,
-        (o1 % 256) as u8,
-        (o2 % 256) as u8,
-        (o3 % 256) as u8,
-        (c.instruments % 256) as u8,
-        (i1 % 256) as u8,
-        (i2 % 256) as u8,
-        (i3 % 256) as u8,
-        (c.patterns % 256) as u8,
-        (p1 % 256) as u8,
-        (p2 % 256) as u8,
-        (p3 % 256) as u8,
+        o[0],
+        o[1],
+        o[2],
+        o[3],
+        i[0],
+        i[1],
+        i[2],
+        i[3],
+        p[0],
+        p[1],
+        p[2],
+        p[3],
     ]
 }
 

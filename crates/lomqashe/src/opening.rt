@@ -2,23 +2,22 @@
 // rate, 12 to 15 spare; then 32 times pan, muted, right bank, AdLib.
 ghost use mathlib.Core.Path.{_≡_};
 ghost use Prim.Native.Nat.{_+_, _*_, _≤_};
-ghost use lib.ListN.{length};
-ghost use Rattle.laws.specs.Entries.{tabulate};
-ghost use Rattle.lomqashe.specs.Bytes.{inTurn};
+ghost use mathlib.Core.List.{_++_};
+ghost use lib.ListN.{length, take};
+ghost use Rattle.laws.specs.Entries.{tabulate, inTurn};
 ghost use Rattle.lomqashe.specs.Openings.{settingBytes, settingAt, levelBytes, openingBytes, openingAt};
-use crate::numbers::flag_of;
 use crate::numbers::is_set;
+use tune::numbers::flag_of;
 use tune::numbers::u32_at;
+use tune::numbers::u32_bytes;
 use tune::opening::ChannelOpening;
 use tune::opening::Opening;
-use tune::parts::copy_whole;
+use tune::parts::put_at;
 
 fn head_bytes(o: Opening) -> [u8; 16]
     ensures { λ r. ⌜ r ≡ levelBytes o ⌝ }
 {
-    let r1 = o.rate / 256;
-    let r2 = r1 / 256;
-    let r3 = r2 / 256;
+    let r = u32_bytes(o.rate);
     [
         o.speed,
         o.tempo,
@@ -28,10 +27,10 @@ fn head_bytes(o: Opening) -> [u8; 16]
         0,
         0,
         0,
-        (o.rate % 256) as u8,
-        (r1 % 256) as u8,
-        (r2 % 256) as u8,
-        (r3 % 256) as u8,
+        r[0],
+        r[1],
+        r[2],
+        r[3],
         0,
         0,
         0,
@@ -50,31 +49,16 @@ fn channel_bytes(c: ChannelOpening) -> [u8; 4]
     ]
 }
 
-fn put_head(part: &mut [u8], o: Opening)
-    requires { ⌜ length (now part) ≡ 16 ⌝ }
-    ensures { λ _. ⌜ now (part .exit) ≡ levelBytes o ⌝ }
-{
-    let bytes = head_bytes(o);
-    copy_whole(part, &bytes);
-}
-
-fn put_channel(part: &mut [u8], c: ChannelOpening)
-    requires { ⌜ length (now part) ≡ 4 ⌝ }
-    ensures { λ _. ⌜ now (part .exit) ≡ settingBytes c ⌝ }
-{
-    let bytes = channel_bytes(c);
-    copy_whole(part, &bytes);
-}
-
+// 32 channels behind the head, one behind the other.
 fn put_channels(out: &mut [u8], channels: [ChannelOpening; 32])
-    requires { ⌜ length (now out) ≡ 128 ⌝ }
-    ensures { λ _. ⌜ now (out .exit) ≡ inTurn settingBytes channels ⌝ }
+    requires { ⌜ length (now out) ≡ 144 ⌝ }
+    ensures { λ _. ⌜ now (out .exit) ≡ take 16 (now (out .entry)) ++ inTurn settingBytes channels ⌝ }
 {
     let mut i: usize = 0;
     while i < 32 {
         let c = channels[i];
-        let at = i * 4;
-        put_channel(&mut out[at..at + 4], c);
+        let bytes = channel_bytes(c);
+        put_at(out, 16 + i * 4, &bytes);
         i += 1;
     }
 }
@@ -83,9 +67,10 @@ pub fn put_opening(out: &mut [u8], o: Opening)
     requires { ⌜ length (now out) ≡ 144 ⌝ }
     ensures { λ _. ⌜ now (out .exit) ≡ openingBytes o ⌝ }
 {
+    let head = head_bytes(o);
     let channels = o.channels;
-    put_head(&mut out[0..16], o);
-    put_channels(&mut out[16..144], channels);
+    put_at(out, 0, &head);
+    put_channels(out, channels);
 }
 
 fn channel_at(s: &[u8], at: usize) -> ChannelOpening

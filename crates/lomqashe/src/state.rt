@@ -2,16 +2,14 @@
 // loop count, 6 loop start row, 7 hold left, 8 held, 9 ended, 10 speed, 11 tempo, 12 global volume, 13 Amiga limits, 14
 // fast slides, 15 spare, 16 to 19 rate, 20 to 23 spare, 24 to 31 start, 32 to 63 the S infos. Then 32 channels of 80.
 ghost use mathlib.Core.Path.{_≡_};
-ghost use mathlib.Core.List.{_++_};
 ghost use lib.ListN.{length};
 ghost use Rattle.lomqashe.specs.States.{optionOf, headBytes, stateBytes, pathOf, stateOf};
 ghost use Rattle.lomqashe.specs.States as spec;
 use crate::channels::channels_of;
 use crate::channels::put_channels;
 use crate::numbers::bytes_at;
-use crate::numbers::flag_of;
 use crate::numbers::is_set;
-use crate::numbers::put_both;
+use crate::numbers::put_block;
 use channel::state::Switches;
 use row_path::loops::PatternLoop;
 use row_path::loops::Place;
@@ -21,8 +19,11 @@ use row_path::machine::Path;
 use row_path::option::ByteOption;
 use row_path::option::or_before;
 use section::state::State;
+use tune::numbers::flag_of;
 use tune::numbers::u32_at;
+use tune::numbers::u32_bytes;
 use tune::numbers::u64_at;
+use tune::numbers::u64_bytes;
 
 fn present(o: ByteOption) -> u8
     ensures { λ r. ⌜ r ≡ spec.present o ⌝ }
@@ -50,18 +51,8 @@ fn head_bytes(s: State) -> [u8; 32]
     let l = path.pattern_loop;
     let lo = l.order;
     let count = l.count;
-    let rate = path.clock.rate;
-    let r1 = rate / 256;
-    let r2 = r1 / 256;
-    let r3 = r2 / 256;
-    let start = path.clock.start;
-    let s1 = start / 256;
-    let s2 = s1 / 256;
-    let s3 = s2 / 256;
-    let s4 = s3 / 256;
-    let s5 = s4 / 256;
-    let s6 = s5 / 256;
-    let s7 = s6 / 256;
+    let r = u32_bytes(path.clock.rate);
+    let t = u64_bytes(path.clock.start);
     [
         path.place.order,
         path.place.row,
@@ -79,33 +70,23 @@ fn head_bytes(s: State) -> [u8; 32]
         flag_of(s.switches.amiga_limits),
         flag_of(s.switches.fast_slides),
         0,
-        (rate % 256) as u8,
-        (r1 % 256) as u8,
-        (r2 % 256) as u8,
-        (r3 % 256) as u8,
+        r[0],
+        r[1],
+        r[2],
+        r[3],
         0,
         0,
         0,
         0,
-        (start % 256) as u8,
-        (s1 % 256) as u8,
-        (s2 % 256) as u8,
-        (s3 % 256) as u8,
-        (s4 % 256) as u8,
-        (s5 % 256) as u8,
-        (s6 % 256) as u8,
-        (s7 % 256) as u8,
+        t[0],
+        t[1],
+        t[2],
+        t[3],
+        t[4],
+        t[5],
+        t[6],
+        t[7],
     ]
-}
-
-fn put_head(part: &mut [u8], s: State)
-    requires { ⌜ length (now part) ≡ 64 ⌝ }
-    ensures { λ _. ⌜ now (part .exit) ≡ headBytes s ++ s .path .«s_info» ⌝ }
-{
-    let head = head_bytes(s);
-    let path = s.path;
-    let infos = path.s_info;
-    put_both(part, head, infos);
 }
 
 // The bytes of a state, from which it can be read again.
@@ -114,9 +95,13 @@ pub fn put_state(state: &mut [u8], s: State)
     ensures written { λ _. ⌜ now (state .exit) ≡ stateBytes s ⌝ }
     ensures kept { λ _. ⌜ stateOf (stateBytes s) ≡ s ⌝ }
 {
+    let head = head_bytes(s);
+    let path = s.path;
+    let infos = path.s_info;
     let channels = s.channels;
-    put_head(&mut state[0..64], s);
-    put_channels(&mut state[64..2624], channels);
+    put_block(state, 0, head);
+    put_block(state, 32, infos);
+    put_channels(state, channels);
 }
 
 fn path_of(s: &[u8]) -> Path

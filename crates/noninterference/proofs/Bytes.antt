@@ -7,12 +7,12 @@ use native.Mathlib.Nat.{add-zero}
 use lib.ListN.{length, getD, take, drop}
 use lib.Seq.{take-at, drop-at, drop-drop, getD-drop}
 use Rattle.laws.specs.Masks.{bitOf}
-use Rattle.tune.specs.Numbers.{littleAt}
+use Rattle.tune.specs.Numbers.{littleAt, bytesOf, flag}
 use Rattle.tune.proofs.Little.{four}
 use Rattle.row_path.specs.Leave.{lengthOf}
 use Rattle.row_path.specs.declared.machine.Entered.{Entered}
 use Rattle.channel.specs.declared.state.Channel.{Channel}
-use Rattle.section.specs.Records.{bytesOf, flag, rowHead, channelBytes, channelsBytes, recordBytes}
+use Rattle.section.specs.Records.{rowHead, channelBytes, channelsBytes, recordBytes}
 use Rattle.section.proofs.Sizes.{bytes-length, channel-length}
 use Rattle.noninterference.specs.Kept.{headIn, strikeIn, channelIn}
 

@@ -13,7 +13,7 @@ use Rattle.laws.specs.Refusals.{orElse}
 use Rattle.tune.specs.Sizes.{rule9}
 use Rattle.tune.specs.Cells.{rowPlace, cellAt, rowCells, cellOf}
 use Rattle.tune.specs.Opening.{rule10}
-use Rattle.tune.specs.declared.opening.Opening.{Opening}
+use Rattle.row_path.specs.First.{firstPath}
 use Rattle.row_path.specs.Sound.{Bytes}
 use Rattle.row_path.specs.Orders.{skipFrom, skipped, patternAt}
 use Rattle.row_path.specs.Scan.{heard, scanned, firstScan}
@@ -28,27 +28,17 @@ use Rattle.channel.specs.Channels as channels
 use Rattle.tune.specs.Samples.{sampleOf}
 use Rattle.laws.specs.Masks.{maskFrom}
 use Rattle.section.specs.Machines.{rowPlayed, recordOf, recordsOf}
-use Rattle.section.specs.Records.{bytesOf, rowHead, recordBytes}
+use Rattle.tune.specs.Numbers.{bytesOf}
+use Rattle.section.specs.Records.{rowHead, recordBytes}
 use Rattle.section.specs.Tables.{Tune}
-use Rattle.section.specs.Open.{firstPath, freshState, openRule}
+use Rattle.section.specs.Open.{freshState, openRule}
 use Rattle.section.specs.Section.{Answer, Refused, Gave}
+use Rattle.section.proofs.Ordinary.{ordinary}
 use Rattle.noninterference.specs.Revoiced.{Revoiced, Lent}
 use Rattle.noninterference.specs.Calls.{Call, answersOf, sizeGiven, sizesGiven}
 use Rattle.noninterference.specs.Machines.{opened, pathOf, machineRecords}
 use Rattle.noninterference.specs.Kept.{strikeIn, Kept}
 use Rattle.noninterference.proofs.Theorem.{channel-kept}
-
-abbrev pub opening : Opening
-opening =
-    record {
-      speed = 6;
-      tempo = 125;
-      «global_volume» = 64;
-      rate = 60000;
-      «amiga_limits» = false;
-      «fast_slides» = false;
-      channels = replicate 32 (record { pan = 8; muted = false; «right_bank» = false; adlib = false });
-    }
 
 -- a pattern of empty cells, and the same with a note of instrument 1 in channel 1's first cell
 unfoldable pub empty : ℕ → List ℕ
@@ -66,10 +56,10 @@ abbrev pub samples : List ℕ
 samples = 1 ∷ 64 ∷ 0 ∷ 0 ∷ 0 ∷ 16 ∷ 0 ∷ 0 ∷ 0 ∷ 0 ∷ 0 ∷ 0 ∷ 0 ∷ 0 ∷ 0 ∷ 0 ∷ 171 ∷ 32 ∷ 0 ∷ 0 ∷ []
 
 abbrev pub first : Tune
-first = record { tables = record { orders = 0 ∷ []; cells = plain; samples = samples }; opening = opening }
+first = record { tables = record { orders = 0 ∷ []; cells = plain; samples = samples }; opening = ordinary }
 
 abbrev pub second : Tune
-second = record { tables = record { orders = 0 ∷ []; cells = voiced; samples = samples }; opening = opening }
+second = record { tables = record { orders = 0 ∷ []; cells = voiced; samples = samples }; opening = ordinary }
 
 empty-length : (n : ℕ) → length (empty n) ≡ n * 5
 unfolding empty

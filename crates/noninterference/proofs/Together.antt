@@ -24,7 +24,8 @@ use Rattle.channel.specs.declared.channels.Rowed.{Rowed}
 use Rattle.channel.proofs.Own.{channel-at, strike-at}
 use Rattle.channel.proofs.Volumes.{volume-alike}
 use Rattle.section.specs.Tables.{Tables, Tune}
-use Rattle.section.specs.Records.{bytesOf, channelBytes}
+use Rattle.tune.specs.Numbers.{bytesOf}
+use Rattle.section.specs.Records.{channelBytes}
 use Rattle.section.specs.Machines.{Voices, rowPlayed, recordOf, voicesAfter, recordsOf, voicesBehind}
 use Rattle.section.proofs.Sizes.{played-count}
 use Rattle.noninterference.specs.Revoiced.{Revoiced}

@@ -10,13 +10,15 @@ use lib.ListN.{length, getD, replicate}
 use Rattle.tune.specs.Sizes.{rule9}
 use Rattle.tune.specs.declared.opening.ChannelOpening.{ChannelOpening}
 use Rattle.tune.specs.declared.opening.Opening.{Opening}
+use Rattle.row_path.specs.First.{firstPath}
 use Rattle.row_path.specs.Sound.{Bytes}
 use Rattle.channel.specs.Opening.{openedChannel}
 use Rattle.channel.specs.declared.state.Channel.{Channel}
 use Rattle.section.specs.Tables.{Tables, tablesRule}
-use Rattle.section.specs.Open.{firstPath, freshState}
+use Rattle.section.specs.Open.{freshState}
 use Rattle.section.specs.Section.{pathBroken, channelBroken, stateRule}
 use Rattle.section.specs.Typed.{ShapedChannel, Shaped, ByteTables}
+use Rattle.section.proofs.Ordinary.{ordinary}
 
 zero-bytes : (n : ℕ) → Bytes (replicate n 0)
 zero-bytes zero k = omega arith
@@ -56,30 +58,17 @@ fresh-shaped o h f =
 unfoldable small : Tables
 small = record { orders = 0 ∷ []; cells = replicate 10240 0; samples = replicate 20 0 }
 
-unfoldable opening : Opening
-opening =
-    record {
-      speed = 6;
-      tempo = 125;
-      «global_volume» = 64;
-      rate = 60000;
-      «amiga_limits» = false;
-      «fast_slides» = false;
-      channels = replicate 32 (record { pan = 8; muted = false; «right_bank» = false; adlib = false });
-    }
-
 small-tables : tablesRule small ≡ 0
 unfolding small rule9
 small-tables = refl
 
-small-state : stateRule (freshState opening) ≡ 0
-unfolding opening stateRule freshState firstPath pathBroken channelBroken openedChannel isNan
+small-state : stateRule (freshState ordinary) ≡ 0
+unfolding stateRule freshState firstPath pathBroken channelBroken openedChannel isNan
 small-state = refl
 
 small-bytes : ByteTables small
 unfolding small
 small-bytes = record { cells = zero-bytes 10240; samples = zero-bytes 20 }
 
-small-shaped : Shaped (freshState opening)
-unfolding opening
-small-shaped = fresh-shaped opening refl (omega arith)
+small-shaped : Shaped (freshState ordinary)
+small-shaped = fresh-shaped ordinary refl (omega arith)

@@ -19,7 +19,8 @@ use Rattle.row_path.specs.declared.machine.Entered.{Entered}
 use Rattle.row_path.proofs.Unmoved.{entered-clock}
 use Rattle.channel.specs.declared.state.Channel.{Channel}
 use Rattle.section.specs.Tables.{Tables}
-use Rattle.section.specs.Records.{bytesOf, flag, rowHead, channelBytes, channelsBytes, recordBytes}
+use Rattle.tune.specs.Numbers.{bytesOf, flag}
+use Rattle.section.specs.Records.{rowHead, channelBytes, channelsBytes, recordBytes}
 use Rattle.section.specs.Machines.{rowPlayed, recordOf}
 use Rattle.section.specs.Walk.{voicesOf}
 use Rattle.section.specs.declared.state.State.{State}

@@ -3,7 +3,8 @@ use Prim.Native.Nat.{ℕ, zero, suc, _+_, _*_, _/_}
 use mathlib.Core.List.{List, [], _∷_, _++_}
 use lib.ListN.{getD}
 use Rattle.laws.specs.Choice.{pick}
-use Rattle.section.specs.Records.{bytesOf, flag, channelsBytes}
+use Rattle.tune.specs.Numbers.{bytesOf, flag}
+use Rattle.section.specs.Records.{channelsBytes}
 use Rattle.original.specs.State.{Song, PlayerState}
 use Rattle.original.specs.Player.{«enter_row», «next_row»}
 

@@ -9,21 +9,14 @@ ghost use lib.ListN.{length};
 ghost use Rattle.laws.specs.Choice.{pick};
 ghost use Rattle.laws.specs.Entries.{pieces};
 ghost use Rattle.packed.specs.Entry.{emptyCell};
-ghost use Rattle.packed.specs.Unpacking.{stepPlace, putCell, stepCells, runsPast, emptyPattern, unpacked};
+ghost use Rattle.packed.specs.Unpacking.{stepPlace, stepCells, runsPast, emptyPattern, unpacked};
 use tune::parts::copy_whole;
+use tune::parts::put_at;
 
 // Where the unpacking stands: the next byte of the file, and the row.
 pub struct Place {
     pub at: usize,
     pub row: usize,
-}
-
-// Puts a cell's five bytes at a place of the cells. The others stay.
-fn put_cell(cells: &mut [u8], place: usize, cell: [u8; 5])
-    requires { ⌜ place + 5 ≤ length (now cells) ⌝ }
-    ensures { λ _. ⌜ now (cells .exit) ≡ putCell (now (cells .entry)) place cell ⌝ }
-{
-    copy_whole(&mut cells[place..place + 5], &cell);
 }
 
 // The place behind the 0 or the entry at `at`.
@@ -53,7 +46,7 @@ fn put_step(file: &[u8], at: usize, row: usize, cells: &mut [u8]) -> Place
         };
     }
     let cell = entry::entry_cell(file, at, b);
-    put_cell(cells, row * 160 + entry::channel_of(b) * 5, cell);
+    put_at(cells, row * 160 + entry::channel_of(b) * 5, &cell);
     let n = entry::entry_bytes(b);
     Place { at: at + n, row }
 }
@@ -81,7 +74,7 @@ fn empty_row() -> [u8; 160]
     let mut row: [u8; 160] = [0; 160];
     let mut k: usize = 0;
     while k < 32 {
-        put_cell(&mut row, k * 5, empty);
+        put_at(&mut row, k * 5, &empty);
         k += 1;
     }
     row

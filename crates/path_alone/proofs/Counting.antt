@@ -17,7 +17,8 @@ use Rattle.row_path.specs.declared.machine.Entered.{Entered}
 use Rattle.row_path.proofs.Settled.{entered-settled, left-settled}
 use Rattle.row_path.proofs.Unmoved.{entered-clock}
 use Rattle.row_path.proofs.Walks as walks
-use Rattle.path_alone.specs.Rows.{pathFrom, beyond}
+use Rattle.row_path.specs.First.{firstPath}
+use Rattle.path_alone.specs.Rows.{beyond}
 
 module _ (orders cells : List ℕ) where
   rows-none : (m : ℕ) (q : Path) → q .ended ≡ true → rowsLeft orders cells m q ≡ 0
@@ -107,6 +108,6 @@ within orders tempo rate n e =
     let c = or-false (ltb 255 orders) (ltb tempo 32) (b .0) in
     (ltb-false 255 orders (c .0), ltb-false tempo 32 (c .1), ltb-false 100000 rate (b .1), ltb-false (2 ^ 31) n (a .1))
 
-pub from-settled : (speed tempo rate : ℕ) → 32 ≤ tempo → rate ≤ 100000 → Settled (pathFrom speed tempo rate) × (pathFrom speed tempo rate .clock .start ≡ 0)
-unfolding pathFrom
+pub from-settled : (speed tempo rate : ℕ) → 32 ≤ tempo → rate ≤ 100000 → Settled (firstPath speed tempo rate) × (firstPath speed tempo rate .clock .start ≡ 0)
+unfolding firstPath
 from-settled speed tempo rate t r = (record { row = omega arith; start-row = omega arith; tempo = t; rate = r }, refl)

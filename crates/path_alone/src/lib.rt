@@ -4,40 +4,11 @@ ghost use Prim.Native.Nat.{_≤_, _^_};
 ghost use lib.ListN.{length};
 ghost use Rattle.row_path.specs.Sound.{Settled};
 ghost use Rattle.row_path.specs.Walk.{rowsLeft};
-ghost use Rattle.path_alone.specs.Rows.{pathFrom, beyond, pathRows};
-use row_path::loops::PatternLoop;
-use row_path::loops::Place;
-use row_path::machine::Clock;
-use row_path::machine::Hold;
+ghost use Rattle.path_alone.specs.Rows.{beyond, pathRows};
 use row_path::machine::Path;
 use row_path::machine::enter;
+use row_path::machine::first_path;
 use row_path::machine::leave;
-use row_path::option::ByteOption;
-
-fn path_from(speed: u8, tempo: u8, rate: u32) -> Path
-    ensures { λ r. ⌜ r ≡ pathFrom speed tempo rate ⌝ }
-{
-    Path {
-        place: Place { order: 0, row: 0 },
-        pattern_loop: PatternLoop {
-            order: ByteOption::None,
-            start_row: 0,
-            count: ByteOption::None,
-        },
-        hold: Hold {
-            left: 0,
-            held: false,
-        },
-        clock: Clock {
-            speed,
-            tempo,
-            rate,
-            start: 0,
-        },
-        ended: false,
-        s_info: [0; 32],
-    }
-}
 
 fn is_beyond(orders: usize, tempo: u8, rate: u32, n: u32) -> bool
     ensures { λ r. ⌜ r ≡ beyond orders tempo rate n ⌝ }
@@ -81,5 +52,5 @@ pub extern "C" fn lomqashe_path_rows(
     if is_beyond(orders.len(), tempo, rate, n) {
         return 0;
     }
-    count(orders, cells, path_from(speed, tempo, rate), n)
+    count(orders, cells, first_path(speed, tempo, rate), n)
 }

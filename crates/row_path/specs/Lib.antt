@@ -7,3 +7,4 @@ pub mod Leave
 pub mod Sound
 pub mod Steering
 pub mod Walk
+pub mod First

@@ -1,8 +1,9 @@
-// Entering and leaving a row.
+// The path's first state, and entering and leaving a row.
 ghost use mathlib.Core.Path.{_≡_};
 ghost use Prim.Native.Nat.{_+_, _*_, _^_, _≤_, _<_};
 ghost use lib.ListN.{length};
 ghost use Rattle.row_path.specs.Enter.{endedAt, arrived, paced, delayed, settled, loopedBy, acted, visited, entered};
+ghost use Rattle.row_path.specs.First.{firstPath};
 ghost use Rattle.row_path.specs.Leave.{lengthOf, ticked, placeAfter, heldOn, goneOn, left};
 ghost use Rattle.row_path.specs.Leave as spec;
 use crate::loops::Jump;
@@ -52,6 +53,32 @@ pub struct Entered {
     pub path: Path,
     pub jump: Jump,
     pub pattern: u8,
+}
+
+// The path where a tune opens.
+pub fn first_path(speed: u8, tempo: u8, rate: u32) -> Path
+    ensures { λ r. ⌜ r ≡ firstPath speed tempo rate ⌝ }
+{
+    Path {
+        place: Place { order: 0, row: 0 },
+        pattern_loop: PatternLoop {
+            order: ByteOption::None,
+            start_row: 0,
+            count: ByteOption::None,
+        },
+        hold: Hold {
+            left: 0,
+            held: false,
+        },
+        clock: Clock {
+            speed,
+            tempo,
+            rate,
+            start: 0,
+        },
+        ended: false,
+        s_info: [0; 32],
+    }
 }
 
 fn end_at(p: Path, order: u8) -> Path

@@ -6,8 +6,8 @@ ghost use mathlib.Core.List.{_++_};
 ghost use lib.ListN.{length};
 ghost use Rattle.s3m.specs.Instruments.{headerSample, instrumentSample, samplesOf, instrumentPast, instrumentsPast};
 use tune::numbers::u16_at;
-use tune::parts::copy_both;
 use tune::parts::copy_whole;
+use tune::parts::put_at;
 
 fn instrument_past(file: &[u8], pointer: usize) -> bool
     requires { ⌜ pointer < 65536 ⌝ }
@@ -46,8 +46,9 @@ fn put_sample(part: &mut [u8], first: [u8; 4], lengths: &[u8], c5: &[u8])
     requires { ⌜ (length (now part) ≡ 20) × (length (now lengths) ≡ 12) × (length (now c5) ≡ 4) ⌝ }
     ensures { λ _. ⌜ now (part .exit) ≡ first ++ (now (lengths .entry) ++ now (c5 .entry)) ⌝ }
 {
-    copy_whole(&mut part[0..4], &first);
-    copy_both(&mut part[4..20], lengths, c5);
+    put_at(part, 0, &first);
+    put_at(part, 4, lengths);
+    put_at(part, 16, c5);
 }
 
 // The sample of the 80 bytes at a place.

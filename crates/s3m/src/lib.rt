@@ -20,7 +20,7 @@ use patterns::patterns_past;
 use patterns::read_cells;
 use tune::opening::Opening;
 use tune::opening::blank_opening;
-use tune::parts::copy_whole;
+use tune::parts::copy_from;
 use tune::refusals::first_of;
 use tune::refusals::refusal;
 
@@ -75,7 +75,7 @@ fn read_orders(file: &[u8], n: usize, orders: &mut [u8])
     requires { ⌜ (96 + n ≤ length (now file)) × (length (now orders) ≡ n) ⌝ }
     ensures { λ _. ⌜ now (orders .exit) ≡ bytesAt (now (file .entry)) 96 n ⌝ }
 {
-    copy_whole(orders, &file[96..96 + n]);
+    copy_from(orders, file, 96);
 }
 
 // Read: fills the three tables and gives the opening values with the rate that it is handed, or says why not and leaves

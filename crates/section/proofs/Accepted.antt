@@ -22,13 +22,14 @@ use Rattle.row_path.specs.declared.machine.Entered.{Entered}
 use Rattle.row_path.proofs.SoundWalks.{walk-sound, walk-start}
 use Rattle.channel.specs.Channels.{rowEntered, rowVisited}
 use Rattle.channel.specs.Opening.{openedChannel}
+use Rattle.row_path.specs.First.{firstPath}
 use Rattle.channel.specs.declared.channels.Rowed.{Rowed}
 use Rattle.channel.specs.declared.state.Channel.{Channel}
 use Rattle.channel.specs.declared.state.Switches.{Switches}
 use Rattle.channel.proofs.Numbered.{opened-numbers, Numbered, channels-numbered}
 use Rattle.section.specs.declared.state.State.{State}
 use Rattle.section.specs.Tables.{Tables, tablesRule}
-use Rattle.section.specs.Open.{firstPath, freshState, openRule, openOf}
+use Rattle.section.specs.Open.{freshState, openRule, openOf}
 use Rattle.section.specs.Machines.{Voices, rowPlayed, voicesAfter, voicesBehind}
 use Rattle.section.specs.Walk.{voicesOf, stateWith, Walked, walk}
 use Rattle.section.specs.Section.{pathBroken, channelBroken, stateRule}
@@ -83,13 +84,13 @@ opened-numbered d (o ∷ os) zero b = opened-numbers o
 opened-numbered d (o ∷ os) (suc k) b = opened-numbered d os k (omega arith)
 
 -- opening values that rule 10 accepts make a sound path
-pub first-sound : (o : Opening) → rule10 o ≡ 0 → o .speed ≤ 255 → Sound (firstPath o)
+pub first-sound : (o : Opening) → rule10 o ≡ 0 → o .speed ≤ 255 → Sound (firstPath (o .speed) (o .tempo) (o .rate))
 unfolding firstPath
 first-sound o e f =
     let r = in-range o e in
     record { order = omega arith; row = omega arith; start-row = omega arith; slow = r .speed-least; fast = f; tempo = r .tempo-least; moves = r .rate-least; rate = r .rate-most }
 
-first-start : (o : Opening) → firstPath o .clock .start ≡ 0
+first-start : (o : Opening) → firstPath (o .speed) (o .tempo) (o .rate) .clock .start ≡ 0
 unfolding firstPath
 first-start o = refl
 
@@ -106,12 +107,12 @@ unfolding machines stateWith freshState
 own-accepted t o n e f b l h =
     let short = sized (t .orders) (t .cells) (t .samples) e .orders-most in
     let first = first-sound o f l in
-    let from = walk-start (t .orders) (t .cells) short b n (firstPath o) first in
-    let w = pathWalk (t .orders) (t .cells) n (firstPath o) in
+    let from = walk-start (t .orders) (t .cells) short b n (firstPath (o .speed) (o .tempo) (o .rate)) first in
+    let w = pathWalk (t .orders) (t .cells) n (firstPath (o .speed) (o .tempo) (o .rate)) in
     let d = openedChannel (record { pan = 0; muted = false; «right_bank» = false; adlib = false }) in
     ap (λ (x : Walked). stateRule (x .state)) (walk-machines t n (freshState o))
     ∙ kept-rule _
-    (path-kept (w .path) (walk-sound (t .orders) (t .cells) short b n (firstPath o) first)
+    (path-kept (w .path) (walk-sound (t .orders) (t .cells) short b n (firstPath (o .speed) (o .tempo) (o .rate)) first)
     (near (w .path .clock .start) n h (subst (λ (m : ℕ). w .path .clock .start ≤ m + n * 1992187) (first-start o) from)))
     (floats-kept d 0 (voicesBehind t (freshState o .switches) (w .rows) (voicesOf (freshState o)) .channels) (voices-numbered t (freshState o .switches) (w .rows) (voicesOf (freshState o)) d (opened-numbered d (o .channels))))
 

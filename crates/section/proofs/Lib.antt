@@ -9,3 +9,4 @@ pub mod Sizes
 pub mod Typed
 pub mod Visiting
 pub mod Walks
+pub mod Ordinary

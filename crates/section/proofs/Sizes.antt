@@ -15,7 +15,8 @@ use Rattle.channel.specs.declared.state.Switches.{Switches}
 use Rattle.channel.proofs.Own as own
 use Rattle.section.specs.declared.state.State.{State}
 use Rattle.section.specs.Tables.{Tables}
-use Rattle.section.specs.Records.{bytesOf, rowHead, channelBytes, channelsBytes, recordBytes}
+use Rattle.tune.specs.Numbers.{bytesOf}
+use Rattle.section.specs.Records.{rowHead, channelBytes, channelsBytes, recordBytes}
 use Rattle.section.specs.Machines.{Voices, rowPlayed, recordOf, voicesAfter, recordsOf, voicesBehind}
 use Rattle.section.specs.Walk.{voicesOf, stateWith, Walked, walk}
 use Rattle.section.proofs.Walks.{machines, walk-machines}

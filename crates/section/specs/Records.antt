@@ -1,23 +1,13 @@
 -- A record's 536 bytes (01, 'Section, second part', Record). Assumes nothing.
-use Prim.Native.Nat.{ℕ, zero, suc, _+_, _*_, _/_, _%_}
-use mathlib.Core.Bool.{Bool, true, false}
+use Prim.Native.Nat.{ℕ, _+_, _*_}
 use mathlib.Core.List.{List, [], _∷_, _++_}
 use lib.Ieee.{binary32, toBits}
+use Rattle.tune.specs.Numbers.{bytesOf, flag}
 use Rattle.row_path.specs.Leave.{lengthOf}
 use Rattle.row_path.specs.declared.machine.Entered.{Entered}
 use Rattle.channel.specs.declared.state.Channel.{Channel}
 use Rattle.channel.specs.declared.state.TriggerOption.{TriggerOption}
 use Rattle.channel.specs.declared.state.TriggerOption.the-variants.{None, Some}
-
--- a number as n bytes, the low byte first
-unfoldable pub bytesOf : ℕ → ℕ → List ℕ
-bytesOf zero x = []
-bytesOf (suc n) x = x % 256 ∷ bytesOf n (x / 256)
-
--- 0 or 1
-abbrev pub flag : Bool → ℕ
-flag true = 1
-flag false = 0
 
 -- delay tick (0 none)
 abbrev pub delayTick : TriggerOption → ℕ

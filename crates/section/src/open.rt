@@ -4,49 +4,19 @@ ghost use mathlib.Core.List.{map};
 ghost use Rattle.channel.specs.Opening.{openedChannel};
 ghost use Rattle.section.specs.Tables.{lent};
 ghost use Rattle.section.specs.Typed.{ByteTables, ShapedOpening};
-ghost use Rattle.section.specs.Open.{firstPath, freshState, openOf};
+ghost use Rattle.section.specs.Open.{freshState, openOf};
 use crate::state::Opened;
 use crate::state::State;
 use channel::state::Channel;
 use channel::state::Switches;
 use channel::state::open_channel;
-use row_path::loops::PatternLoop;
-use row_path::loops::Place;
-use row_path::machine::Clock;
-use row_path::machine::Hold;
-use row_path::machine::Path;
-use row_path::option::ByteOption;
+use row_path::machine::first_path;
 use tune::opening::ChannelOpening;
 use tune::opening::Opening;
 use tune::opening::blank_opening;
 use tune::opening::opening_rule;
 use tune::refusals::first_of;
 use tune::sizes::sizes_rule;
-
-fn first_path(o: Opening) -> Path
-    ensures { λ r. ⌜ r ≡ firstPath o ⌝ }
-{
-    Path {
-        place: Place { order: 0, row: 0 },
-        pattern_loop: PatternLoop {
-            order: ByteOption::None,
-            start_row: 0,
-            count: ByteOption::None,
-        },
-        hold: Hold {
-            left: 0,
-            held: false,
-        },
-        clock: Clock {
-            speed: o.speed,
-            tempo: o.tempo,
-            rate: o.rate,
-            start: 0,
-        },
-        ended: false,
-        s_info: [0; 32],
-    }
-}
 
 fn open_channels(openings: [ChannelOpening; 32]) -> [Channel; 32]
     ensures { λ r. ⌜ r ≡ map openedChannel openings ⌝ }
@@ -71,7 +41,7 @@ fn fresh_state(o: Opening) -> State
         fast_slides: o.fast_slides,
     };
     State {
-        path: first_path(o),
+        path: first_path(o.speed, o.tempo, o.rate),
         channels: open_channels(openings),
         global_volume: o.global_volume,
         switches,

@@ -6,18 +6,15 @@ ghost use Prim.Native.Nat.{_+_, _≤_};
 ghost use lib.Dec.{T};
 ghost use lib.Ieee.{isNan};
 ghost use lib.ListN.{length, take, drop};
-ghost use Rattle.section.specs.Records.{flag, delayTick, rowHead, channelBytes};
+ghost use Rattle.section.specs.Records.{delayTick, rowHead, channelBytes};
 use channel::state::Channel;
 use channel::state::TriggerOption;
 use row_path::machine::Entered;
 use row_path::machine::row_length;
-use tune::parts::copy_whole;
-
-fn flag_of(b: bool) -> u8
-    ensures { λ r. ⌜ r ≡ flag b ⌝ }
-{
-    if b { 1 } else { 0 }
-}
+use tune::numbers::flag_of;
+use tune::numbers::u32_bytes;
+use tune::numbers::u64_bytes;
+use tune::parts::put_at;
 
 fn delay_tick(t: TriggerOption) -> u8
     ensures { λ r. ⌜ r ≡ delayTick t ⌝ }
@@ -34,20 +31,9 @@ fn head_bytes(e: Entered, global: u8, strikes: u32) -> [u8; 24]
     ensures { λ r. ⌜ r ≡ rowHead e global strikes ⌝ }
 {
     let clock = e.path.clock;
-    let length = row_length(clock);
-    let s1 = clock.start / 256;
-    let s2 = s1 / 256;
-    let s3 = s2 / 256;
-    let s4 = s3 / 256;
-    let s5 = s4 / 256;
-    let s6 = s5 / 256;
-    let s7 = s6 / 256;
-    let m1 = strikes / 256;
-    let m2 = m1 / 256;
-    let m3 = m2 / 256;
-    let l1 = length / 256;
-    let l2 = l1 / 256;
-    let l3 = l2 / 256;
+    let s = u64_bytes(clock.start);
+    let m = u32_bytes(strikes);
+    let l = u32_bytes(row_length(clock));
     [
         e.path.place.order,
         e.pattern,
@@ -57,22 +43,22 @@ fn head_bytes(e: Entered, global: u8, strikes: u32) -> [u8; 24]
         clock.tempo,
         global,
         0,
-        (clock.start % 256) as u8,
-        (s1 % 256) as u8,
-        (s2 % 256) as u8,
-        (s3 % 256) as u8,
-        (s4 % 256) as u8,
-        (s5 % 256) as u8,
-        (s6 % 256) as u8,
-        (s7 % 256) as u8,
-        (strikes % 256) as u8,
-        (m1 % 256) as u8,
-        (m2 % 256) as u8,
-        (m3 % 256) as u8,
-        (length % 256) as u8,
-        (l1 % 256) as u8,
-        (l2 % 256) as u8,
-        (l3 % 256) as u8,
+        s[0],
+        s[1],
+        s[2],
+        s[3],
+        s[4],
+        s[5],
+        s[6],
+        s[7],
+        m[0],
+        m[1],
+        m[2],
+        m[3],
+        l[0],
+        l[1],
+        l[2],
+        l[3],
     ]
 }
 
@@ -82,23 +68,17 @@ fn channel_bytes(c: Channel) -> [u8; 16]
     ensures { λ r. ⌜ r ≡ channelBytes c ⌝ }
 {
     let delay = c.pending_delay;
-    let f0 = f32::to_bits(c.frequency);
-    let f1 = f0 / 256;
-    let f2 = f1 / 256;
-    let f3 = f2 / 256;
-    let t0 = f32::to_bits(c.target_frequency);
-    let t1 = t0 / 256;
-    let t2 = t1 / 256;
-    let t3 = t2 / 256;
+    let f = u32_bytes(f32::to_bits(c.frequency));
+    let t = u32_bytes(f32::to_bits(c.target_frequency));
     [
-        (f0 % 256) as u8,
-        (f1 % 256) as u8,
-        (f2 % 256) as u8,
-        (f3 % 256) as u8,
-        (t0 % 256) as u8,
-        (t1 % 256) as u8,
-        (t2 % 256) as u8,
-        (t3 % 256) as u8,
+        f[0],
+        f[1],
+        f[2],
+        f[3],
+        t[0],
+        t[1],
+        t[2],
+        t[3],
         c.instrument,
         c.volume,
         c.pan,
@@ -116,7 +96,7 @@ pub fn put_head(output: &mut [u8], at: usize, e: Entered, global: u8, strikes: u
     ensures { λ _. ⌜ now (output .exit) ≡ take at (now (output .entry)) ++ (rowHead e global strikes ++ drop (at + 24) (now (output .entry))) ⌝ }
 {
     let bytes = head_bytes(e, global, strikes);
-    copy_whole(&mut output[at..at + 24], &bytes);
+    put_at(output, at, &bytes);
 }
 
 // Writes a channel at a place of the output, whose other bytes stay.
@@ -125,5 +105,5 @@ pub fn put_channel(output: &mut [u8], at: usize, c: Channel)
     ensures { λ _. ⌜ now (output .exit) ≡ take at (now (output .entry)) ++ (channelBytes c ++ drop (at + 16) (now (output .entry))) ⌝ }
 {
     let bytes = channel_bytes(c);
-    copy_whole(&mut output[at..at + 16], &bytes);
+    put_at(output, at, &bytes);
 }

@@ -11,6 +11,7 @@ ghost use Rattle.sheet.specs.Lines.{decimal, spelled, lineFields, lineAn
 use crate::answer::Answer;
 use crate::answer::record_rule;
 use tune::numbers::u32_at;
+use tune::numbers::u64_at;
 use tune::numbers::wide;
 
 // How many digits a number has.
@@ -103,7 +104,7 @@ fn start_of(row: &[u8]) -> u64
     requires { ⌜ length (now row) ≡ 536 ⌝ }
     ensures { λ r. ⌜ r ≡ littleAt 8 (now (row .entry)) startAt ⌝ }
 {
-    u32_at(row, 8) as u64 + u32_at(row, 12) as u64 * 4294967296
+    u64_at(row, 8)
 }
 
 // How many channels a record strikes.

@@ -1,11 +1,12 @@
--- Numbers of two, four and eight bytes, read off. Assumes nothing.
-use mathlib.Core.Path.{_≡_, refl}
-use mathlib.Core.List.{List}
-use Prim.Native.Nat.{ℕ, _+_, _*_}
-use native.Mathlib.Nat.{add-zero, add-assoc}
+-- Numbers of several bytes, read off and given back. Assumes nothing.
+use mathlib.Core.Path.{_≡_, refl, sym, ap, subst, _∙_}
+use mathlib.Core.List.{List, _++_}
+use Prim.Native.Nat.{ℕ, zero, suc, _+_, _*_, _/_, _%_, _^_, _<_}
+use native.Mathlib.Nat.{add-zero, add-assoc, mul-assoc, pow-suc}
 use native.Mathlib.Omega.{arith}
-use lib.ListN.{getD}
-use Rattle.tune.specs.Numbers.{littleAt}
+use lib.ListN.{getD, drop}
+use lib.Seq.{getD-drop, drop-drop}
+use Rattle.tune.specs.Numbers.{littleAt, bytesOf}
 
 pub two : (s : List ℕ) (at : ℕ) → littleAt 2 s at ≡ getD s at 0 + getD s (at + 1) 0 * 256
 two s at = rw add-zero (omega arith)
@@ -15,3 +16,30 @@ four s at = rw add-zero (omega arith)
 
 pub halves : (s : List ℕ) (at : ℕ) → littleAt 4 s at + littleAt 4 s (at + 4) * 4294967296 ≡ littleAt 8 s at
 halves s at = rw (add-zero, add-assoc at 4 0, add-assoc at 4 1, add-assoc at 4 2, add-assoc at 4 3) (omega arith)
+
+-- the low byte, and the number that the others make
+low-first : (n : ℕ) (s : List ℕ) (at : ℕ) → littleAt (suc n) s at ≡ getD s at 0 + littleAt n s (at + 1) * 256
+low-first zero s at = rw add-zero (omega arith)
+low-first (suc n) s at =
+    let e : at + suc n ≡ at + 1 + n = omega arith in
+    regroup _ _ _ _ _ (low-first n s at)
+    (ap (λ (k : ℕ). getD s k 0 * 256 ^ suc n) e ∙ ap (λ (p : ℕ). getD s (at + 1 + n) 0 * p) (pow-suc 256 n) ∙ sym (mul-assoc (getD s (at + 1 + n) 0) (256 ^ n) 256))
+  where
+    regroup : (a l m p q : ℕ) → l ≡ a + m * 256 → q ≡ p * 256 → l + q ≡ a + (m + p) * 256
+    regroup a l m p q f g = omega arith
+
+-- the bytes that are made of a number give it back
+pub little-back : (n : ℕ) (s rest : List ℕ) (at x : ℕ) → x < 256 ^ n → drop at s ≡ bytesOf n x ++ rest → x ≡ littleAt n s at
+unfolding bytesOf
+little-back zero s rest at x h e = omega arith
+little-back (suc n) s rest at x h e =
+    let a : getD s at 0 ≡ x % 256 = ap (λ (k : ℕ). getD s k 0) (sym (add-zero at)) ∙ sym (getD-drop at s 0 0) ∙ ap (λ l. getD l 0 0) e in
+    let p : x < 256 ^ n * 256 = subst (λ (k : ℕ). x < k) (pow-suc 256 n) h in
+    let q = little-back n s rest (at + 1) (x / 256) (smaller x (256 ^ n) p) (sym (drop-drop 1 at s) ∙ ap (drop 1) e) in
+    whole x _ _ a q ∙ sym (low-first n s at)
+  where
+    smaller : (x p : ℕ) → x < p * 256 → x / 256 < p
+    smaller x p h = omega arith
+
+    whole : (x a m : ℕ) → a ≡ x % 256 → x / 256 ≡ m → x ≡ a + m * 256
+    whole x a m f g = omega arith

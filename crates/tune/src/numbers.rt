@@ -1,8 +1,8 @@
-// Numbers of several bytes, the low byte first, and the two halves of a byte.
+// Numbers of several bytes, the low byte first, flags, and the two halves of a byte.
 ghost use mathlib.Core.Path.{_≡_};
 ghost use Prim.Native.Nat.{_+_, _/_, _%_, _≤_, _<_};
 ghost use lib.ListN.{length};
-ghost use Rattle.tune.specs.Numbers.{littleAt};
+ghost use Rattle.tune.specs.Numbers.{littleAt, bytesOf, flag};
 
 // A byte as a wider number.
 pub fn wide(b: u8) -> usize
@@ -39,6 +39,51 @@ pub fn u64_at(s: &[u8], at: usize) -> u64
     ensures { λ r. ⌜ r ≡ littleAt 8 (now (s .entry)) at ⌝ }
 {
     u32_at(s, at) as u64 + u32_at(s, at + 4) as u64 * 4294967296
+}
+
+// The four bytes of a number.
+pub fn u32_bytes(x: u32) -> [u8; 4]
+    ensures { λ r. ⌜ r ≡ bytesOf 4 x ⌝ }
+{
+    let x1 = x / 256;
+    let x2 = x1 / 256;
+    let x3 = x2 / 256;
+    [
+        (x % 256) as u8,
+        (x1 % 256) as u8,
+        (x2 % 256) as u8,
+        (x3 % 256) as u8,
+    ]
+}
+
+// The eight bytes of a number.
+pub fn u64_bytes(x: u64) -> [u8; 8]
+    ensures { λ r. ⌜ r ≡ bytesOf 8 x ⌝ }
+{
+    let x1 = x / 256;
+    let x2 = x1 / 256;
+    let x3 = x2 / 256;
+    let x4 = x3 / 256;
+    let x5 = x4 / 256;
+    let x6 = x5 / 256;
+    let x7 = x6 / 256;
+    [
+        (x % 256) as u8,
+        (x1 % 256) as u8,
+        (x2 % 256) as u8,
+        (x3 % 256) as u8,
+        (x4 % 256) as u8,
+        (x5 % 256) as u8,
+        (x6 % 256) as u8,
+        (x7 % 256) as u8,
+    ]
+}
+
+// 0 or 1.
+pub fn flag_of(b: bool) -> u8
+    ensures { λ r. ⌜ r ≡ flag b ⌝ }
+{
+    if b { 1 } else { 0 }
 }
 
 pub fn high_nibble(b: u8) -> u8

@@ -6,29 +6,8 @@ use Rattle.lomqashe.specs.Answers.{recordAnswer}
 use Rattle.lomqashe.proofs.lomqashe_line.Statement.{statement}
 use Rattle.lomqashe.proofs.lomqashe_line.Tie as tie
 
-line-requires : tie.Need-line-requires
-line-requires c κs = search needs
-
-enum-known-n : tie.Need-enum-known-n
-enum-known-n c = search needs
-
-cast-result : tie.Need-cast-result
-cast-result c = search needs
-
-enum-known-rule : tie.Need-enum-known-rule
-enum-known-rule c = search needs
-
-refused-requires : tie.Need-refused-requires
-refused-requires c κs = search needs
-
-same-length : tie.Need-same-length
-same-length c = search needs
-
 returns : tie.Need-returns
 returns c = (sym (zero-add _) ∙ ap recordAnswer (sym (c .before .n .given .1) ∙ c .before .before .before .before .before .line .ensures .0), c .before .before .before .before .before .line .ensures .1)
-
-same-length-2 : tie.Need-same-length-2
-same-length-2 c = search needs
 
 returns-2 : tie.Need-returns-2
 returns-2 c = (c .refused .ensures ∙ ap recordAnswer (sym (c .before .before .rule .given .1) ∙ c .before .before .before .before .before .before .line .ensures .0), c .before .before .before .before .before .before .line .ensures .1)
@@ -36,13 +15,5 @@ returns-2 c = (c .refused .ensures ∙ ap recordAnswer (sym (c .before .before .
 pub lomqashe-line-spec : {M : Type 1} → statement M
 lomqashe-line-spec =
     tie.close
-    (tie.spec
-    line-requires
-    enum-known-n
-    cast-result
-    enum-known-rule
-    refused-requires
-    same-length
-    returns
-    same-length-2
-    returns-2)
+    (tie.spec (λ c κs. search needs) (λ c. search needs) (λ c. search needs) (λ c. search needs) (λ c κs. search needs)
+    (λ c. search needs) returns (λ c. search needs) returns-2)

@@ -20,27 +20,12 @@ loop-holds : tie.Need-loop-holds Inv-loop μ-loop
 unfolding pieces
 loop-holds c = (omega arith, search needs, refl)
 
-slice-aggregate-put-cell : tie.Need-slice-aggregate-put-cell Inv-loop μ-loop
-slice-aggregate-put-cell c = search needs
-
-mul-put-cell : tie.Need-mul-put-cell Inv-loop μ-loop
-mul-put-cell c = search needs
-
-put-cell-requires : tie.Need-put-cell-requires Inv-loop μ-loop
-put-cell-requires c κs = search needs
-
-add-k : tie.Need-add-k Inv-loop μ-loop
-add-k c = search needs
-
-loop-less : tie.Need-loop-less Inv-loop μ-loop
-loop-less c = search needs
-
 loop-again : tie.Need-loop-again Inv-loop μ-loop
 loop-again c =
-    let l = c .before .before .before .before .loop in
-    let h : l .k * 5 + 5 ≤ length (l .row) = omega (arith, l .inv .1, c .before .before .before .loop-test .taken) in
-    let g = begins-more (λ j. emptyCell) 5 (λ j. refl) (l .k) (l .row) h (l .inv .2) (c .before .put-cell .ensures) in
-    (omega (arith, c .before .before .before .loop-test .taken), g .0 ∙ l .inv .1, g .1)
+    let l = c .before .before .before .before .before .loop in
+    let h : l .k * 5 + 5 ≤ length (l .row) = omega (arith, l .inv .1, c .before .before .before .before .loop-test .taken) in
+    let g = begins-more (λ j. emptyCell) 5 (λ j. refl) (l .k) (l .row) h (l .inv .2) (c .before .put-at .ensures) in
+    (omega (arith, c .before .before .before .before .loop-test .taken), g .0 ∙ l .inv .1, g .1)
 
 returns : tie.Need-returns Inv-loop μ-loop
 returns c =
@@ -52,14 +37,5 @@ returns c =
 pub empty-row-spec : {M : Type 1} → statement M
 empty-row-spec =
     tie.close
-    (tie.spec
-    Inv-loop
-    μ-loop
-    loop-holds
-    slice-aggregate-put-cell
-    mul-put-cell
-    put-cell-requires
-    add-k
-    loop-less
-    loop-again
-    returns)
+    (tie.spec Inv-loop μ-loop loop-holds (λ c. search needs) (λ c. search needs) (λ c. search needs) (λ c κs. search needs)
+    (λ c. search needs) (λ c. search needs) loop-again returns)

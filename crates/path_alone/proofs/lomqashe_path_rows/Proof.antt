@@ -15,19 +15,19 @@ returns : tie.Need-returns
 unfolding pathRows
 returns c = simp (← c .before .is-beyond .ensures, c .if1 .taken)
 
-path-from-requires : tie.Need-path-from-requires
-path-from-requires c κs = search needs
+first-path-requires : tie.Need-first-path-requires
+first-path-requires c κs = search needs
 
 count-requires : tie.Need-count-requires
 count-requires c κs =
     let a = c .before .before .before .before .before .args in
     let w = within _ (a .tempo) (a .rate) (a .n) (sym (c .before .before .is-beyond .ensures) ∙ c .before .if1 .left) in
     let f = from-settled (a .speed) (a .tempo) (a .rate) (w .1) (w .2) in
-    (w .0, subst⁻¹ Settled (c .path-from .ensures) (f .0), ap (λ (p : Path). p .clock .start) (c .path-from .ensures) ∙ f .1, w .3)
+    (w .0, subst⁻¹ Settled (c .first-path .ensures) (f .0), ap (λ (p : Path). p .clock .start) (c .first-path .ensures) ∙ f .1, w .3)
 
 returns-2 : tie.Need-returns-2
 unfolding pathRows
-returns-2 c = simp (← c .before .before .before .is-beyond .ensures, c .before .before .if1 .left, ← c .before .path-from .ensures, c .count .ensures)
+returns-2 c = simp (← c .before .before .before .is-beyond .ensures, c .before .before .if1 .left, ← c .before .first-path .ensures, c .count .ensures)
 
 pub lomqashe-path-rows-spec : {M : Type 1} → statement M
-lomqashe-path-rows-spec = tie.close (tie.spec is-beyond-requires returns path-from-requires count-requires returns-2)
+lomqashe-path-rows-spec = tie.close (tie.spec is-beyond-requires returns first-path-requires count-requires returns-2)

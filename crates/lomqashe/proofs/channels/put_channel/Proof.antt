@@ -1,60 +1,39 @@
 -- `lomqashe::channels::put_channel` meets its contract. Assumes nothing.
 use denote.Ref.{now}
-use mathlib.Core.Path.{refl, ap, _∙_}
-use mathlib.Core.List.{_++_}
+use mathlib.Core.Path.{_≡_, refl, sym, ap, _∙_}
+use mathlib.Core.List.{List, _++_, append-assoc}
+use Prim.Native.Nat.{ℕ, _+_}
+use native.Mathlib.Omega.{arith}
+use lib.ListN.{length, take, drop, length-append}
 use borrow.Author.Needs.{needs}
-use Rattle.laws.proofs.Parts.{two-parts}
-use Rattle.lomqashe.specs.Channels.{channelBytes}
+use Rattle.laws.proofs.Parts.{put-as, put-next}
+use Rattle.lomqashe.specs.Channels.{floatBytes, fieldBytes, channelBytes}
 use Rattle.lomqashe.proofs.Lengths.{float-length}
 use Rattle.lomqashe.proofs.channels.put_channel.Statement.{statement}
 use Rattle.lomqashe.proofs.channels.put_channel.Tie as tie
 
-field-bytes-requires : tie.Need-field-bytes-requires
-field-bytes-requires c κs = search needs
-
-sub-put-floats : tie.Need-sub-put-floats
-sub-put-floats c = search needs
-
-part-put-floats-start : tie.Need-part-put-floats-start
-part-put-floats-start c = search needs
-
-part-put-floats-end : tie.Need-part-put-floats-end
-part-put-floats-end c = search needs
-
-put-floats-requires : tie.Need-put-floats-requires
-put-floats-requires c κs = search needs
-
-sub-put-both : tie.Need-sub-put-both
-sub-put-both c = search needs
-
-part-put-both-start : tie.Need-part-put-both-start
-part-put-both-start c = search needs
-
-part-put-both-end : tie.Need-part-put-both-end
-part-put-both-end c = search needs
-
-put-both-requires : tie.Need-put-both-requires
-put-both-requires c κs = search needs
-
-same-length : tie.Need-same-length
-same-length c = search needs
-
 returns : tie.Need-returns
 unfolding channelBytes
-returns c = two-parts (now (c .before .before .before .before .before .before .before .before .before .before .before .args .part)) 16 64 (c .before .before .before .before .before .before .before .before .before .before .before .pre) (float-length (c .before .before .before .before .before .before .before .before .before .before .before .args .c)) refl (c .before .before .before .before .before .before .put-floats .ensures) (c .before .before .put-both .ensures ∙ ap (λ l. l ++ c .before .before .before .before .before .before .before .before .before .before .before .args .c .«effect_memory») (c .before .before .before .before .before .before .before .before .before .field-bytes .ensures))
+returns c =
+    let p2 = c .before .before .before .before .before .before in
+    let p1 = p2 .before .before .before .before in
+    let f = p1 .before .before .before .before in
+    let s = f .before .before .before in
+    let l = now (s .args .out) in
+    let a = s .args .at in
+    let x = floatBytes (s .args .c) in
+    let y = fieldBytes (s .args .c) in
+    let n : length y ≡ 32 = ap length (sym (f .field-bytes .ensures)) ∙ p2 .put-block .ensures .1 in
+    let m : length (x ++ y) ≡ 48 = length-append x y ∙ rw (float-length (s .args .c), n) in
+    put-next l (x ++ y) {b = s .args .c .«effect_memory»} a 48 32 80 refl (omega arith) m (c .before .before .put-block2 .ensures .1) refl
+    (put-next l x a 16 32 48 refl (omega arith) (float-length (s .args .c)) (p2 .put-block .ensures .1) (f .field-bytes .ensures)
+    (put-as l a 16 (search needs) (f .before .float-bytes .ensures) (p1 .put-at .ensures))
+    (p2 .put-block .ensures .0))
+    (c .before .before .put-block2 .ensures .0)
+    ∙ ap (λ (z : List ℕ). take a l ++ (z ++ drop (a + 80) l)) (append-assoc x y (s .args .c .«effect_memory»))
 
 pub put-channel-spec : {M : Type 1} → statement M
 put-channel-spec =
     tie.close
-    (tie.spec
-    field-bytes-requires
-    sub-put-floats
-    part-put-floats-start
-    part-put-floats-end
-    put-floats-requires
-    sub-put-both
-    part-put-both-start
-    part-put-both-end
-    put-both-requires
-    same-length
-    returns)
+    (tie.spec (λ c κs. search needs) (λ c κs. search needs) (λ c. search needs) (λ c κs. search needs) (λ c. search needs)
+    (λ c κs. search needs) (λ c. search needs) (λ c κs. search needs) (λ c. search needs) returns)

@@ -29,29 +29,11 @@ past-left c = ap (instrumentPast (now (c .before .before .before .before .before
 loop-holds : tie.Need-loop-holds Inv-loop μ-loop
 loop-holds c = (omega arith, some-none _)
 
-mul-u16-at : tie.Need-mul-u16-at Inv-loop μ-loop
-mul-u16-at c = search needs
-
-add-u16-at : tie.Need-add-u16-at Inv-loop μ-loop
-add-u16-at c = search needs
-
-u16-at-requires : tie.Need-u16-at-requires Inv-loop μ-loop
-u16-at-requires c κs = search needs
-
-instrument-past-requires : tie.Need-instrument-past-requires Inv-loop μ-loop
-instrument-past-requires c κs = search needs
-
 returns : tie.Need-returns Inv-loop μ-loop
 unfolding instrumentsPast
 returns c =
     let a = c .before .before .before .before .before .before .args in
     sym (some-found (λ i. instrumentPast (now (a .file)) (pointerAt (now (a .file)) (a .list) i)) (a .n) (c .before .before .before .before .loop .k) (c .before .before .before .loop-test .taken) (past c ∙ c .if1 .taken))
-
-add-k : tie.Need-add-k Inv-loop μ-loop
-add-k c = search needs
-
-loop-less : tie.Need-loop-less Inv-loop μ-loop
-loop-less c = search needs
 
 loop-again : tie.Need-loop-again Inv-loop μ-loop
 loop-again c =
@@ -69,16 +51,5 @@ returns-2 c =
 pub instruments-past-spec : {M : Type 1} → statement M
 instruments-past-spec =
     tie.close
-    (tie.spec
-    Inv-loop
-    μ-loop
-    loop-holds
-    mul-u16-at
-    add-u16-at
-    u16-at-requires
-    instrument-past-requires
-    returns
-    add-k
-    loop-less
-    loop-again
-    returns-2)
+    (tie.spec Inv-loop μ-loop loop-holds (λ c. search needs) (λ c. search needs) (λ c κs. search needs) (λ c κs. search needs)
+    returns (λ c. search needs) (λ c. search needs) loop-again returns-2)

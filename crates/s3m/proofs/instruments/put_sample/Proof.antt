@@ -1,60 +1,31 @@
 -- `s3m::instruments::put_sample` meets its contract. Assumes nothing.
 use denote.Ref.{now}
-use mathlib.Core.Path.{_≡_, refl}
-use lib.ListN.{length}
-use Rattle.laws.proofs.Parts.{two-parts}
+use Prim.Native.Nat.{_≤_}
+use mathlib.Core.Path.{_≡_, refl, _∙_}
+use mathlib.Core.List.{_++_, append-assoc, append-nil}
+use native.Mathlib.Omega.{arith}
+use lib.ListN.{length, length-append, drop-of-length-le}
+use Rattle.laws.proofs.Parts.{put-as, put-next}
 use borrow.Author.Needs.{needs}
 use Rattle.s3m.proofs.instruments.put_sample.Statement.{statement}
 use Rattle.s3m.proofs.instruments.put_sample.Tie as tie
 
-sub-copy-whole : tie.Need-sub-copy-whole
-sub-copy-whole c = search needs
-
-part-copy-whole-start : tie.Need-part-copy-whole-start
-part-copy-whole-start c = search needs
-
-part-copy-whole-end : tie.Need-part-copy-whole-end
-part-copy-whole-end c = search needs
-
-slice-aggregate-copy-whole : tie.Need-slice-aggregate-copy-whole
-slice-aggregate-copy-whole c = search needs
-
-copy-whole-requires : tie.Need-copy-whole-requires
-copy-whole-requires c κs = search needs
-
-sub-copy-both : tie.Need-sub-copy-both
-sub-copy-both c = search needs
-
-part-copy-both-start : tie.Need-part-copy-both-start
-part-copy-both-start c = search needs
-
-part-copy-both-end : tie.Need-part-copy-both-end
-part-copy-both-end c = search needs
-
-copy-both-requires : tie.Need-copy-both-requires
-copy-both-requires c κs = search needs
-
-same-length : tie.Need-same-length
-same-length c = search needs
-
 returns : tie.Need-returns
 returns c =
-    let s = c .before .before .before .before .before .before .before .before .before .before .before .before in
-    let four : length (s .args .t2) ≡ 4 = search needs in
-    two-parts (now (s .args .part)) 4 16 (s .pre .0) four refl (c .before .before .before .before .before .before .copy-whole .ensures) (c .before .before .copy-both .ensures)
+    let p2 = c .before .before .before .before .before .before in
+    let p1 = p2 .before .before .before .before in
+    let s = p1 .before .before .before .before .before .before in
+    let l = now (s .args .part) in
+    let first = s .args .t2 in
+    let four : length first ≡ 4 = search needs in
+    let sixteen : length (first ++ now (s .args .lengths)) ≡ 16 = length-append first (now (s .args .lengths)) ∙ rw (four, s .pre .1) in
+    let whole : length l ≤ 20 = omega arith in
+    put-next l (first ++ now (s .args .lengths)) {b = now (s .args .c5)} 0 16 4 20 refl (omega arith) sixteen (s .pre .2) refl
+    (put-next l first {b = now (s .args .lengths)} 0 4 12 16 refl (omega arith) four (s .pre .1) refl (put-as l {b = first} 0 4 four refl (p1 .put-at .ensures)) (p2 .put-at2 .ensures))
+    (c .before .before .put-at3 .ensures)
+    ∙ rw (drop-of-length-le l whole, append-nil, append-assoc)
 
 pub put-sample-spec : {M : Type 1} → statement M
 put-sample-spec =
     tie.close
-    (tie.spec
-    sub-copy-whole
-    part-copy-whole-start
-    part-copy-whole-end
-    slice-aggregate-copy-whole
-    copy-whole-requires
-    sub-copy-both
-    part-copy-both-start
-    part-copy-both-end
-    copy-both-requires
-    same-length
-    returns)
+    (tie.spec (λ c. search needs) (λ c κs. search needs) (λ c κs. search needs) (λ c κs. search needs) (λ c. search needs) returns)

@@ -4,15 +4,9 @@ use Rattle.section.specs.Open.{freshState}
 use Rattle.section.proofs.open.fresh_state.Statement.{statement}
 use Rattle.section.proofs.open.fresh_state.Tie as tie
 
-first-path-requires : tie.Need-first-path-requires
-first-path-requires c κs = search needs
-
-open-channels-requires : tie.Need-open-channels-requires
-open-channels-requires c κs = search needs
-
 returns : tie.Need-returns
 unfolding freshState
 returns c = simp (← c .before .first-path .ensures, ← c .open-channels .ensures)
 
 pub fresh-state-spec : {M : Type 1} → statement M
-fresh-state-spec = tie.close (tie.spec first-path-requires open-channels-requires returns)
+fresh-state-spec = tie.close (tie.spec (λ c κs. search needs) (λ c κs. search needs) returns)

@@ -1,36 +1,13 @@
 -- `section::record::put_head` meets its contract. Assumes nothing.
-use mathlib.Core.Path.{_≡_, _∙_}
 use borrow.Author.Needs.{needs}
-use Rattle.laws.proofs.Parts.{part-put}
+use Rattle.laws.proofs.Parts.{put-as}
 use Rattle.section.proofs.record.put_head.Statement.{statement}
 use Rattle.section.proofs.record.put_head.Tie as tie
 
-head-bytes-requires : tie.Need-head-bytes-requires
-head-bytes-requires c κs = search needs
-
-add-copy-whole : tie.Need-add-copy-whole
-add-copy-whole c = search needs
-
-sub-copy-whole : tie.Need-sub-copy-whole
-sub-copy-whole c = search needs
-
-part-copy-whole-start : tie.Need-part-copy-whole-start
-part-copy-whole-start c = search needs
-
-part-copy-whole-end : tie.Need-part-copy-whole-end
-part-copy-whole-end c = search needs
-
-slice-aggregate-copy-whole : tie.Need-slice-aggregate-copy-whole
-slice-aggregate-copy-whole c = search needs
-
-copy-whole-requires : tie.Need-copy-whole-requires
-copy-whole-requires c κs = search needs
-
-same-length : tie.Need-same-length
-same-length c = search needs
-
 returns : tie.Need-returns
-returns c = part-put _ (c .before .before .before .before .before .before .before .args .at) 24 (c .before .before .copy-whole .ensures ∙ c .before .before .before .before .before .head-bytes .ensures)
+returns c = let b = c .before .before .before .before .before in put-as _ (b .before .before .args .at) 24 (search needs) (b .head-bytes .ensures) (c .before .before .put-at .ensures)
 
 pub put-head-spec : {M : Type 1} → statement M
-put-head-spec = tie.close (tie.spec head-bytes-requires add-copy-whole sub-copy-whole part-copy-whole-start part-copy-whole-end slice-aggregate-copy-whole copy-whole-requires same-length returns)
+put-head-spec =
+    tie.close
+    (tie.spec (λ c κs. search needs) (λ c. search needs) (λ c κs. search needs) (λ c. search needs) returns)

@@ -1,12 +1,11 @@
 -- `section::walk::rests_of` meets its contract. Assumes nothing.
 use Prim.Native.Nat.{_≤_, _<_, _-_}
-use mathlib.Core.Path.{_≡_, refl, sym, _∙_}
+use mathlib.Core.Path.{_≡_, refl}
 use mathlib.Core.List.{map}
 use native.Mathlib.Omega.{arith}
 use lib.ListN.{take, length, length-set}
-use lib.Seq.{take-length}
 use borrow.Author.Needs.{needs}
-use Rattle.laws.proofs.Maps.{filled-next}
+use Rattle.laws.proofs.Maps.{filled-next, filled-done}
 use Rattle.channel.specs.Rest.{atRest}
 use Rattle.section.proofs.walk.rests_of.Statement.{statement}
 use Rattle.section.proofs.walk.rests_of.Tie as tie
@@ -21,24 +20,6 @@ abbrev μ-loop : tie.MeasureT-loop
 loop-holds : tie.Need-loop-holds Inv-loop μ-loop
 loop-holds c = (search needs, search needs, search needs, refl)
 
-mul-c : tie.Need-mul-c Inv-loop μ-loop
-mul-c c = omega arith
-
-array-copy-out-c : tie.Need-array-copy-out-c Inv-loop μ-loop
-array-copy-out-c c = search needs
-
-is-at-rest-requires : tie.Need-is-at-rest-requires Inv-loop μ-loop
-is-at-rest-requires c κs = search needs
-
-array-write-rests : tie.Need-array-write-rests Inv-loop μ-loop
-array-write-rests c = search needs
-
-add-i : tie.Need-add-i Inv-loop μ-loop
-add-i c = search needs
-
-loop-less : tie.Need-loop-less Inv-loop μ-loop
-loop-less c = search needs
-
 loop-again : tie.Need-loop-again Inv-loop μ-loop
 loop-again c =
     let l = c .before .before .before .loop in
@@ -51,9 +32,10 @@ returns : tie.Need-returns Inv-loop μ-loop
 returns c =
     let l = c .before .loop in
     let o = c .before .before .args .t1 in
-    let n : l .i ≡ length (l .rests) = omega arith in
-    let m : l .i ≡ length o = omega arith in
-    sym (take-length (l .rests)) ∙ rw (← n) (l .inv .3 ∙ rw (m, take-length o))
+    filled-done atRest o (l .rests) (l .i) (omega arith) (omega arith) (l .inv .3)
 
 pub rests-of-spec : {M : Type 1} → statement M
-rests-of-spec = tie.close (tie.spec Inv-loop μ-loop loop-holds mul-c array-copy-out-c is-at-rest-requires array-write-rests add-i loop-less loop-again returns)
+rests-of-spec =
+    tie.close
+    (tie.spec Inv-loop μ-loop loop-holds (λ c. omega arith) (λ c. search needs) (λ c κs. search needs) (λ c. search needs)
+    (λ c. search needs) (λ c. search needs) loop-again returns)

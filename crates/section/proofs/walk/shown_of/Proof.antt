@@ -20,30 +20,12 @@ abbrev μ-loop : tie.MeasureT-loop
 loop-holds : tie.Need-loop-holds Inv-loop μ-loop
 loop-holds c = (search needs, search needs, search needs, sym (no-channels (c .args .t1)))
 
-mul-c : tie.Need-mul-c Inv-loop μ-loop
-mul-c c = omega arith
-
-array-copy-out-c : tie.Need-array-copy-out-c Inv-loop μ-loop
-array-copy-out-c c = search needs
-
-slice-aggregate-put-channel : tie.Need-slice-aggregate-put-channel Inv-loop μ-loop
-slice-aggregate-put-channel c = search needs
-
-mul-put-channel : tie.Need-mul-put-channel Inv-loop μ-loop
-mul-put-channel c = search needs
-
 put-channel-requires : tie.Need-put-channel-requires Inv-loop μ-loop
 put-channel-requires c κs =
     let l = c .before .before .before in
     let h : l .loop .i < length (l .before .args .t1) = omega arith in
     let n = channels-whole (l .before .args .t1) (l .before .pre) _ (l .loop .i) h in
     (omega arith, n .frequency, n .target)
-
-add-i : tie.Need-add-i Inv-loop μ-loop
-add-i c = search needs
-
-loop-less : tie.Need-loop-less Inv-loop μ-loop
-loop-less c = search needs
 
 loop-again : tie.Need-loop-again Inv-loop μ-loop
 loop-again c =
@@ -62,4 +44,7 @@ returns c =
     bytes-full o (l .i) (l .shown) n m (l .inv .3)
 
 pub shown-of-spec : {M : Type 1} → statement M
-shown-of-spec = tie.close (tie.spec Inv-loop μ-loop loop-holds mul-c array-copy-out-c slice-aggregate-put-channel mul-put-channel put-channel-requires add-i loop-less loop-again returns)
+shown-of-spec =
+    tie.close
+    (tie.spec Inv-loop μ-loop loop-holds (λ c. omega arith) (λ c. search needs) (λ c. search needs) (λ c. search needs)
+    put-channel-requires (λ c. search needs) (λ c. search needs) loop-again returns)

@@ -6,16 +6,10 @@ use borrow.Author.Needs.{needs}
 use Rattle.tune.proofs.parts.copy_whole.Statement.{statement}
 use Rattle.tune.proofs.parts.copy_whole.Tie as tie
 
-copy-requires : tie.Need-copy-requires
-copy-requires c κs = search needs
-
-same-length : tie.Need-same-length
-same-length c = search needs
-
 returns : tie.Need-returns
 returns c =
     let s = c .before .before .before .before .before .before in
     c .before .before .copy .ensures .1 ∙ copied-whole (now (s .args .src)) (now (s .args .part)) (s .pre)
 
 pub copy-whole-spec : {M : Type 1} → statement M
-copy-whole-spec = tie.close (tie.spec copy-requires same-length returns)
+copy-whole-spec = tie.close (tie.spec (λ c κs. search needs) (λ c. search needs) returns)

@@ -2,15 +2,13 @@
 use Prim.Native.Nat.{ℕ, zero, suc, _+_, _*_, _-_, _≤_, _<_}
 use mathlib.Core.Path.{_≡_, refl, sym, ap, _∙_}
 use mathlib.Core.List.{List, [], _∷_, _++_, append-assoc, append-nil}
-use native.Mathlib.Nat.{suc-mul, zero-mul, add-comm}
+use native.Mathlib.Nat.{suc-mul, zero-mul, add-comm, add-zero, add-assoc}
 use native.Mathlib.Numerals.{add-one}
 use native.Mathlib.Omega.{arith}
-use lib.ListN.{length, take, drop, getD, length-append, drop-of-length-le}
+use lib.ListN.{length, take, drop, getD, length-append, drop-of-length-le, take-append-drop}
 use lib.Seq.{take-suc, take-all, take-length, drop-append-add}
-use borrow.Rule.Slice.PartMut.{putMid}
-use Rattle.laws.specs.Entries.{pieces, tabulate}
-use Rattle.laws.proofs.Parts.{part-grows}
-use Rattle.lomqashe.specs.Bytes.{inTurn}
+use Rattle.laws.specs.Entries.{pieces, tabulate, inTurn}
+use Rattle.laws.proofs.Parts.{part-more, put-size}
 
 module _ {X : Type 0} (f : X → List ℕ) where
   turn-append : (xs ys : List X) → inTurn f (xs ++ ys) ≡ inTurn f xs ++ inTurn f ys
@@ -29,26 +27,31 @@ module _ {X : Type 0} (f : X → List ℕ) where
       ∙ turn-append (take i xs) (getD xs i d ∷ [])
       ∙ ap (λ l. inTurn f (take i xs) ++ l) (turn-one (getD xs i d))
 
-  -- the first i entries are written, of so many bytes each
-  pub record Written (size : ℕ) (xs : List X) (out₀ out : List ℕ) (i : ℕ) : Type 0 where
+  -- the first i entries are written behind the first bytes, of so many bytes each
+  pub record Written (start size : ℕ) (xs : List X) (out₀ out : List ℕ) (i : ℕ) : Type 0 where
+    pub room : start ≤ length out₀
     pub bytes : length (inTurn f (take i xs)) ≡ i * size
-    pub same : out ≡ inTurn f (take i xs) ++ drop (i * size) out₀
+    pub same : out ≡ take start out₀ ++ (inTurn f (take i xs) ++ drop (start + i * size) out₀)
 
-  module _ (size : ℕ) (xs : List X) (out₀ : List ℕ) where
-    pub none-written : Written size xs out₀ out₀ 0
+  module _ (start size : ℕ) (xs : List X) (out₀ : List ℕ) where
+    pub none-written : start ≤ length out₀ → Written start size xs out₀ out₀ 0
     unfolding inTurn
-    none-written = record { bytes = sym (zero-mul size); same = rw zero-mul }
+    none-written h = record { room = h; bytes = sym (zero-mul size); same = rw (zero-mul, add-zero) (sym (take-append-drop start out₀)) }
 
-    pub one-more : (i : ℕ) (d : X) (out ys : List ℕ) → Written size xs out₀ out i → i < length xs → ys ≡ f (getD xs i d) → length ys ≡ size → Written size xs out₀ (putMid (i * size) (i * size + size - i * size) out ys) (i + 1)
-    one-more i d out ys w h e n =
+    pub one-more : (i : ℕ) (d : X) (out : List ℕ) {out' : List ℕ} → Written start size xs out₀ out i → i < length xs → start + i * size + size ≤ length out → length out' ≡ length out
+        → out' ≡ take (start + i * size) out ++ (f (getD xs i d) ++ drop (start + i * size + size) out) → Written start size xs out₀ out' (i + 1)
+    one-more i d out w h b n e =
+        let x = f (getD xs i d) in
         let s : i * size + size ≡ (i + 1) * size = rw (add-one, suc-mul) in
+        let m : length x ≡ size = put-size out x (start + i * size) size b (ap length (sym e) ∙ n) in
         record {
-          bytes = ap length (turn-next xs i d h) ∙ length-append (inTurn f (take i xs)) (f (getD xs i d)) ∙ rw (w .bytes, ← e, n) s;
-          same = part-grows (inTurn f (take i xs)) out₀ (i * size) size (w .bytes) (w .same) e ∙ rw (s, turn-next xs i d h);
+          room = w .room;
+          bytes = ap length (turn-next xs i d h) ∙ length-append (inTurn f (take i xs)) x ∙ rw (w .bytes, m) s;
+          same = e ∙ part-more out₀ (inTurn f (take i xs)) x start (i * size) size (w .room) (w .bytes) (w .same) ∙ rw (add-assoc start (i * size) size, s, turn-next xs i d h);
         }
 
-    pub all-written : (i : ℕ) (out : List ℕ) → Written size xs out₀ out i → length xs ≤ i → length out₀ ≤ i * size → out ≡ inTurn f xs
-    all-written i out w h n = w .same ∙ rw (take-all i xs h, drop-of-length-le out₀ n) (append-nil (inTurn f xs))
+    pub all-written : (i : ℕ) (out : List ℕ) → Written start size xs out₀ out i → length xs ≤ i → length out₀ ≤ start + i * size → out ≡ take start out₀ ++ inTurn f xs
+    all-written i out w h n = w .same ∙ rw (take-all i xs h, drop-of-length-le out₀ n, append-nil)
 
   -- what stands behind the first i entries begins with entry i
   pub turn-drop : (size : ℕ) (xs : List X) (i : ℕ) (d : X) → ((k : ℕ) → k < length xs → length (f (getD xs k d)) ≡ size) → i < length xs → drop (i * size) (inTurn f xs) ≡ f (getD xs i d) ++ inTurn f (drop (suc i) xs)
