@@ -44,6 +44,21 @@ def many_patterns(n):
     return edited((34, word(0)), (36, word(n)))[:ORDERS] + lists
 
 
+def tune(orders, cells):
+    """These orders and one pattern without instruments, in which channel 0 has a command and an info in some rows."""
+    lists = bytes(orders) + word((ORDERS + len(orders) + 2 + 15) // 16)
+    rows = b"".join(bytes([0x80, *cells[row], 0]) if row in cells else b"\0" for row in range(64))
+    header = edited((32, word(len(orders))), (34, word(0)), (36, word(1)))[:ORDERS] + lists
+    return header.ljust((len(header) + 15) // 16 * 16, b"\0") + word(0) + rows
+
+
+def length(rows):
+    return f"{rows},{rows * 7200}"
+
+
+B_PAST, C_NEXT, HOLD_5 = (2, 255), (3, 0), (19, 0xE5)
+FORTY = [(order, row, 0, 0) for order in range(250) for row in range(40)]
+FIFTY = [(0, row, 0, 0) for row in range(50)]
 EMPTY = edited((PATTERN_POINTER, word(0)))
 CASES = [
     ("01's worked example", WORKED, SHEET),
@@ -81,6 +96,18 @@ CASES = [
         "an endless tune",
         edited((PACKED, [0x20, 0x40, 0x01, 0x81, 0x02, 0x00, 0x00])),
         sheet([(0, 0, 0, 1)] * 10000, "more,10000,72000000"),
+    ),
+    # Each order has 40 rows.
+    ("10,000 rows and ended", tune([0] * 250, {39: C_NEXT}), sheet(FORTY, f"end,{length(10000)}")),
+    ("10,000 rows and more", tune([0] * 251, {39: C_NEXT}), sheet(FORTY, f"more,{length(10000)}")),
+    ("10,000 rows, and the next enter would end", tune([0] * 250 + [255], {39: C_NEXT}), sheet(FORTY, f"more,{length(10000)}")),
+    # The program asks for 50 rows at a time.
+    ("an end in the last row of a section", tune([0], {49: B_PAST}), sheet(FIFTY, f"end,{length(50)}")),
+    ("an end that the next section's enter finds", tune([0, 255], {49: C_NEXT}), sheet(FIFTY, f"end,{length(50)}")),
+    (
+        "a hold across a seam",
+        tune([0], {48: HOLD_5}),
+        sheet(FIFTY[:49] + [(0, 48, 1, 0)] * 5 + [(0, row, 0, 0) for row in range(49, 64)], f"end,{length(69)}"),
     ),
 ]
 
