@@ -15,7 +15,7 @@ use Rattle.channel.specs.Opening.{openedChannel}
 use Rattle.channel.specs.Row.{channelEntered}
 use Rattle.channel.specs.Set.{withVolume}
 use Rattle.channel.specs.declared.state.Channel.{Channel}
-use Rattle.section.proofs.Ordinary.{centred, ordinary}
+use Rattle.section.specs.Ordinary.{centred, ordinary}
 
 -- up to n rows of the path machine from Open
 unfoldable pub walked : List ℕ → List ℕ → ℕ → Walk

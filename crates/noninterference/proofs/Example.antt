@@ -33,7 +33,7 @@ use Rattle.section.specs.Records.{rowHead, recordBytes}
 use Rattle.section.specs.Tables.{Tune}
 use Rattle.section.specs.Open.{freshState, openRule}
 use Rattle.section.specs.Section.{Answer, Refused, Gave}
-use Rattle.section.proofs.Ordinary.{ordinary}
+use Rattle.section.specs.Ordinary.{ordinary}
 use Rattle.noninterference.specs.Revoiced.{Revoiced, Lent}
 use Rattle.noninterference.specs.Calls.{Call, answersOf, sizeGiven, sizesGiven}
 use Rattle.noninterference.specs.Machines.{opened, pathOf, machineRecords}

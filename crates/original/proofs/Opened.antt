@@ -18,7 +18,7 @@ use Rattle.section.specs.Tables.{Tables, tablesRule}
 use Rattle.section.specs.Open.{freshState}
 use Rattle.section.specs.Section.{pathBroken, channelBroken, stateRule}
 use Rattle.section.specs.Typed.{ShapedChannel, Shaped, ByteTables}
-use Rattle.section.proofs.Ordinary.{ordinary}
+use Rattle.section.specs.Ordinary.{ordinary}
 
 zero-bytes : (n : ℕ) → Bytes (replicate n 0)
 zero-bytes zero k = omega arith

@@ -10,11 +10,11 @@ use lib.ListN.{length}
 use Rattle.laws.proofs.Picks.{or-false}
 use Rattle.row_path.specs.Enter.{entered}
 use Rattle.row_path.specs.Leave.{left}
-use Rattle.row_path.specs.Sound.{Settled}
+use Rattle.row_path.specs.Sound.{Bounded}
 use Rattle.row_path.specs.Walk.{Turn, Walk, more, onward, pathWalk, rowsLeft}
 use Rattle.row_path.specs.declared.machine.Path.{Path}
 use Rattle.row_path.specs.declared.machine.Entered.{Entered}
-use Rattle.row_path.proofs.Settled.{entered-settled, left-settled}
+use Rattle.row_path.proofs.Bounded.{entered-bounded, left-bounded}
 use Rattle.row_path.proofs.Unmoved.{entered-clock}
 use Rattle.row_path.proofs.Walks as walks
 use Rattle.row_path.specs.First.{firstPath}
@@ -44,16 +44,16 @@ module _ (orders cells : List ℕ) where
   -- so many rows are counted, and the others are those of q
   pub record Counting (n : ℕ) (p q : Path) (rows : ℕ) : Type 0 where
     pub few : rows ≤ n
-    pub settled : Settled q
+    pub bounded : Bounded q
     pub start : q .clock .start ≤ rows * 2 ^ 32
     pub rest : rowsLeft orders cells n p ≡ rows + rowsLeft orders cells (n - rows) q
 
   module _ (n : ℕ) (p : Path) where
-    pub count-start : Settled p → p .clock .start ≡ 0 → Counting n p p 0
+    pub count-start : Bounded p → p .clock .start ≡ 0 → Counting n p p 0
     count-start h e =
         record {
           few = omega arith;
-          settled = h;
+          bounded = h;
           start = omega (arith, e);
           rest = let k : n ≡ n - 0 = omega arith in let z : rowsLeft orders cells (n - 0) p ≡ 0 + rowsLeft orders cells (n - 0) p = omega arith in ap (λ (m : ℕ). rowsLeft orders cells m p) k ∙ z;
         }
@@ -80,7 +80,7 @@ module _ (orders cells : List ℕ) where
         -- what leave asks
         pub count-leaves : n ≤ 2 ^ 31 → (32 ≤ e .path .clock .tempo) × (e .path .clock .rate ≤ 100000) × (e .path .clock .start ≤ 2 ^ 63)
         count-leaves b =
-            let s : Settled (e .path) = subst⁻¹ (λ (x : Entered). Settled (x .path)) g (entered-settled orders cells q (I .settled) .path) in
+            let s : Bounded (e .path) = subst⁻¹ (λ (x : Entered). Bounded (x .path)) g (entered-bounded orders cells q (I .bounded) .path) in
             let c : e .path .clock .start ≡ q .clock .start = ap (λ (x : Entered). x .path .clock .start) g ∙ entered-clock orders cells q .1 in
             (s .tempo, s .rate, omega (arith, c, I .start, l, b))
 
@@ -94,7 +94,7 @@ module _ (orders cells : List ℕ) where
             ∙ ap (λ (x : Path). suc (rowsLeft orders cells (n - (rows + 1)) x)) (sym y) in
             record {
               few = omega (arith, l);
-              settled = subst⁻¹ Settled y (left-settled orders (entered orders cells q) (entered-settled orders cells q (I .settled)));
+              bounded = subst⁻¹ Bounded y (left-bounded orders (entered orders cells q) (entered-bounded orders cells q (I .bounded)));
               start = omega (arith, c, I .start, b);
               rest = omega (arith, I .rest, z);
             }
@@ -108,6 +108,6 @@ within orders tempo rate n e =
     let c = or-false (ltb 255 orders) (ltb tempo 32) (b .0) in
     (ltb-false 255 orders (c .0), ltb-false tempo 32 (c .1), ltb-false 100000 rate (b .1), ltb-false (2 ^ 31) n (a .1))
 
-pub from-settled : (speed tempo rate : ℕ) → 32 ≤ tempo → rate ≤ 100000 → Settled (firstPath speed tempo rate) × (firstPath speed tempo rate .clock .start ≡ 0)
+pub from-bounded : (speed tempo rate : ℕ) → 32 ≤ tempo → rate ≤ 100000 → Bounded (firstPath speed tempo rate) × (firstPath speed tempo rate .clock .start ≡ 0)
 unfolding firstPath
-from-settled speed tempo rate t r = (record { row = omega arith; start-row = omega arith; tempo = t; rate = r }, refl)
+from-bounded speed tempo rate t r = (record { row = omega arith; start-row = omega arith; tempo = t; rate = r }, refl)

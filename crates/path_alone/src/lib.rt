@@ -2,7 +2,7 @@
 ghost use mathlib.Core.Path.{_≡_};
 ghost use Prim.Native.Nat.{_≤_, _^_};
 ghost use lib.ListN.{length};
-ghost use Rattle.row_path.specs.Sound.{Settled};
+ghost use Rattle.row_path.specs.Sound.{Bounded};
 ghost use Rattle.row_path.specs.Walk.{rowsLeft};
 ghost use Rattle.path_alone.specs.Rows.{beyond, pathRows};
 use row_path::machine::Path;
@@ -17,7 +17,7 @@ fn is_beyond(orders: usize, tempo: u8, rate: u32, n: u32) -> bool
 }
 
 fn count(orders: &[u8], cells: &[u8], p: Path, n: u32) -> u32
-    requires { ⌜ (length (now orders) ≤ 255) × Settled p × (p .clock .start ≡ 0) × (n ≤ 2 ^ 31) ⌝ }
+    requires { ⌜ (length (now orders) ≤ 255) × Bounded p × (p .clock .start ≡ 0) × (n ≤ 2 ^ 31) ⌝ }
     ensures { λ r. ⌜ r ≡ rowsLeft (now (orders .entry)) (now (cells .entry)) n p ⌝ }
 {
     let mut path = p;

@@ -1,4 +1,4 @@
--- What enter and leave keep, for any claims on orders, speeds and the rate: Kept and Settled are its two cases. Assumes nothing.
+-- What enter and leave keep, for any claims on orders, speeds and the rate: Kept and Bounded are its two cases. Assumes nothing.
 use Prim.Native.Nat.{ℕ, zero, suc, _/_, _≤_}
 use mathlib.Core.Path.{_≡_}
 use mathlib.Core.Bool.{false, not, _&&_}

@@ -5,7 +5,7 @@ pub mod Ends
 pub mod Keeping
 pub mod Kept
 pub mod Unmoved
-pub mod Settled
+pub mod Bounded
 pub mod ReadsOnly
 pub mod Unsteered
 pub mod Walks

@@ -35,14 +35,14 @@ pub record SoundEntered (e : Entered) : Type 0 where
   pub jump : JumpTo (λ x. x ≤ 255) (e .jump)
 
 -- the part of it that holds of a table of any numbers
-pub record Settled (p : Path) : Type 0 where
+pub record Bounded (p : Path) : Type 0 where
   pub row : p .place .row ≤ 63
   pub start-row : p .«pattern_loop» .«start_row» ≤ 63
   pub tempo : 32 ≤ p .clock .tempo
   pub rate : p .clock .rate ≤ 100000
 
-pub record SettledEntered (e : Entered) : Type 0 where
-  pub path : Settled (e .path)
+pub record BoundedEntered (e : Entered) : Type 0 where
+  pub path : Bounded (e .path)
   pub jump : JumpTo (λ _. Unit) (e .jump)
 
 -- a table of bytes

@@ -11,13 +11,13 @@ use borrow.Author.Tests.{ltb-false, eqb-true, not-false}
 use Rattle.laws.specs.Choice.{pick}
 use Rattle.laws.proofs.Picks.{and-true, or-false}
 use Rattle.laws.proofs.Rules.{sound, kept}
-use Rattle.s3m.specs.Layout.{countsOf, instrumentList, panList, hasPans, listsEnd}
+use Rattle.s3m.specs.Layout.{countsOf, instrumentsAt, pansAt, hasPans, listsEnd}
 use Rattle.s3m.specs.Instruments.{instrumentsPast}
 use Rattle.s3m.specs.declared.header.Counts.{Counts}
 use Rattle.s3m.specs.declared.header.Measured.{Measured}
 use Rattle.s3m.specs.declared.header.Measured.the-variants.{Found, Refused}
 use Rattle.s3m.specs.Answers.{measured, measuredNumber}
-use Rattle.s3m.specs.Refusals.{rule1, rule2, rule3, rule4, rule5, rule6, rule7, rule8, headerRule, measureRule, tablesRule, readRule}
+use Rattle.s3m.specs.Refusals.{rule1, rule2, rule3, rule4, rule5, rule6, rule7, rule8, headerRule, measureRule, fillingRule, readRule}
 
 pub record Accepted (s : List ℕ) : Type 0 where
   pub long : 96 ≤ length s
@@ -56,7 +56,7 @@ pub record Listed (s : List ℕ) (c : Counts) : Type 0 where
 pub listed : (s : List ℕ) (c : Counts) → c ≡ countsOf s → measureRule s ≡ 0 → Listed s c
 listed s c e m =
     let a = accepted s m in
-    let lists : panList (countsOf s) ≤ length s = le-trans (pans-least (hasPans s) (panList (countsOf s))) (a .lists) in
+    let lists : pansAt (countsOf s) ≤ length s = le-trans (pans-least (hasPans s) (pansAt (countsOf s))) (a .lists) in
     subst⁻¹ (Listed s) e (record {
       orders-few = a .orders-most;
       instruments-few = a .instruments-most;
@@ -71,7 +71,7 @@ listed s c e m =
 
 pub read-measured : (s : List ℕ) (orders samples cells : ℕ) → readRule s orders samples cells ≡ 0 → measureRule s ≡ 0
 unfolding readRule
-read-measured s orders samples cells r = sound (measureRule s) (tablesRule s orders samples cells) r .0
+read-measured s orders samples cells r = sound (measureRule s) (fillingRule s orders samples cells) r .0
 
 -- what Read settles before it writes
 pub record Ready (s : List ℕ) (c : Counts) (orders samples cells : ℕ) : Type 0 where
@@ -79,13 +79,13 @@ pub record Ready (s : List ℕ) (c : Counts) (orders samples cells : ℕ) : Type
   pub orders-whole : orders ≡ c .orders
   pub samples-whole : samples ≡ c .instruments * 20
   pub cells-whole : cells ≡ c .patterns * 10240
-  pub instruments-in : instrumentsPast s (instrumentList c) (c .instruments) ≡ false
+  pub instruments-in : instrumentsPast s (instrumentsAt c) (c .instruments) ≡ false
 
 pub ready : (s : List ℕ) (c : Counts) (orders samples cells : ℕ) → c ≡ countsOf s → readRule s orders samples cells ≡ 0 → Ready s c orders samples cells
-unfolding readRule tablesRule
+unfolding readRule fillingRule
 ready s c orders samples cells e r =
     let n = countsOf s in
-    let six = sound (rule6 n orders samples cells) _ (sound (measureRule s) (tablesRule s orders samples cells) r .1) in
+    let six = sound (rule6 n orders samples cells) _ (sound (measureRule s) (fillingRule s orders samples cells) r .1) in
     let seven = sound (rule7 s n) (rule8 s n) (six .1) in
     let fit = not-false (eqb orders (n .orders) && eqb samples (n .instruments * 20) && eqb cells (n .patterns * 10240)) (kept 5 _ (six .0)) in
     let third = and-true (eqb orders (n .orders) && eqb samples (n .instruments * 20)) (eqb cells (n .patterns * 10240)) fit in

@@ -5,7 +5,7 @@ use lib.Dec.{eqb}
 use lib.ListN.{length}
 use Rattle.laws.specs.Choice.{pick}
 use Rattle.tune.specs.Opening.{blankOpening}
-use Rattle.s3m.specs.Layout.{countsOf, instrumentList, patternList, bytesAt}
+use Rattle.s3m.specs.Layout.{countsOf, instrumentsAt, patternsAt, bytesAt}
 use Rattle.s3m.specs.Instruments.{samplesOf}
 use Rattle.s3m.specs.Patterns.{cellsOf}
 use Rattle.s3m.specs.Opening.{openingOf}
@@ -47,7 +47,7 @@ unfoldable pub ordersAfter : List ℕ → ℕ → List ℕ → List ℕ
 ordersAfter s rule orders = pick (eqb rule 0) (bytesAt s 96 (countsOf s .orders)) orders
 
 unfoldable pub samplesAfter : List ℕ → ℕ → List ℕ → List ℕ
-samplesAfter s rule samples = pick (eqb rule 0) (samplesOf s (instrumentList (countsOf s)) (countsOf s .instruments)) samples
+samplesAfter s rule samples = pick (eqb rule 0) (samplesOf s (instrumentsAt (countsOf s)) (countsOf s .instruments)) samples
 
 unfoldable pub cellsAfter : List ℕ → ℕ → List ℕ → List ℕ
-cellsAfter s rule cells = pick (eqb rule 0) (cellsOf s (patternList (countsOf s)) (countsOf s .patterns)) cells
+cellsAfter s rule cells = pick (eqb rule 0) (cellsOf s (patternsAt (countsOf s)) (countsOf s .patterns)) cells

@@ -14,22 +14,22 @@ abbrev pub countsOf : List ℕ → Counts
 countsOf s = record { orders = littleAt 2 s 32; instruments = littleAt 2 s 34; patterns = littleAt 2 s 36 }
 
 -- orders from 96, then instrument and pattern pointers of 16 bits
-abbrev pub instrumentList : Counts → ℕ
-instrumentList c = 96 + c .orders
+abbrev pub instrumentsAt : Counts → ℕ
+instrumentsAt c = 96 + c .orders
 
-abbrev pub patternList : Counts → ℕ
-patternList c = instrumentList c + c .instruments * 2
+abbrev pub patternsAt : Counts → ℕ
+patternsAt c = instrumentsAt c + c .instruments * 2
 
 -- then 32 pans, if byte 53 is 252
-abbrev pub panList : Counts → ℕ
-panList c = patternList c + c .patterns * 2
+abbrev pub pansAt : Counts → ℕ
+pansAt c = patternsAt c + c .patterns * 2
 
 abbrev pub hasPans : List ℕ → Bool
 hasPans s = eqb (getD s 53 0) 252
 
 -- where the lists end
 abbrev pub listsEnd : List ℕ → Counts → ℕ
-listsEnd s c = pick (hasPans s) (panList c + 32) (panList c)
+listsEnd s c = pick (hasPans s) (pansAt c + 32) (pansAt c)
 
 -- pointer k of a list
 abbrev pub pointerAt : List ℕ → ℕ → ℕ → ℕ

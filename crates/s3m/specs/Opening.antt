@@ -10,7 +10,7 @@ use Rattle.laws.specs.Masks.{bitOf}
 use Rattle.tune.specs.Numbers.{littleAt}
 use Rattle.tune.specs.declared.opening.ChannelOpening.{ChannelOpening}
 use Rattle.tune.specs.declared.opening.Opening.{Opening}
-use Rattle.s3m.specs.Layout.{countsOf, panList, hasPans}
+use Rattle.s3m.specs.Layout.{countsOf, pansAt, hasPans}
 
 -- setting mod 128: 0 to 7 left, pan 3; 8 to 15 right, pan 12; others pan 8
 abbrev pub settingPan : ℕ → ℕ
@@ -32,7 +32,7 @@ channelOpening byte pans pan =
 
 -- channel settings from 64, the pans behind the lists
 abbrev pub channelAt : List ℕ → ℕ → ChannelOpening
-channelAt s k = channelOpening (getD s (64 + k) 0) (hasPans s) (getD s (panList (countsOf s) + k) 0)
+channelAt s k = channelOpening (getD s (64 + k) 0) (hasPans s) (getD s (pansAt (countsOf s) + k) 0)
 
 -- flags at 38 (16: Amiga limits; 64, or 0x1300 at 40: fast slides); global volume, speed, tempo at 48, 49, 50
 unfoldable pub openingOf : List ℕ → ℕ → Opening

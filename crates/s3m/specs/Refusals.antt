@@ -7,7 +7,7 @@ use lib.ListN.{getD, length}
 use Rattle.laws.specs.Refusals.{refuse, orElse}
 use Rattle.tune.specs.Numbers.{littleAt}
 use Rattle.tune.specs.Opening.{levelsBroken}
-use Rattle.s3m.specs.Layout.{countsOf, instrumentList, patternList, listsEnd}
+use Rattle.s3m.specs.Layout.{countsOf, instrumentsAt, patternsAt, listsEnd}
 use Rattle.s3m.specs.Instruments.{instrumentsPast}
 use Rattle.s3m.specs.Patterns.{patternsPast}
 use Rattle.s3m.specs.declared.header.Counts.{Counts}
@@ -39,11 +39,11 @@ rule6 c orders samples cells =
 
 -- 7: an instrument's 80 bytes run past the file
 abbrev pub rule7 : List ℕ → Counts → ℕ
-rule7 s c = refuse 7 (instrumentsPast s (instrumentList c) (c .instruments))
+rule7 s c = refuse 7 (instrumentsPast s (instrumentsAt c) (c .instruments))
 
 -- 8: a packed pattern runs past the file before its 64th row ends
 abbrev pub rule8 : List ℕ → Counts → ℕ
-rule8 s c = refuse 8 (patternsPast s (patternList c) (c .patterns))
+rule8 s c = refuse 8 (patternsPast s (patternsAt c) (c .patterns))
 
 -- rules 2 to 5
 unfoldable pub headerRule : List ℕ → ℕ
@@ -53,11 +53,11 @@ headerRule s = orElse (rule2 s) (orElse (rule3 (countsOf s)) (orElse (rule4 s (c
 unfoldable pub measureRule : List ℕ → ℕ
 measureRule s = orElse (rule1 s) (headerRule s)
 
--- rules 6 to 8
-unfoldable pub tablesRule : List ℕ → ℕ → ℕ → ℕ → ℕ
-tablesRule s orders samples cells =
+-- rules 6 to 8, asked before a table is filled
+unfoldable pub fillingRule : List ℕ → ℕ → ℕ → ℕ → ℕ
+fillingRule s orders samples cells =
     orElse (rule6 (countsOf s) orders samples cells) (orElse (rule7 s (countsOf s)) (rule8 s (countsOf s)))
 
 -- what Read asks, 1 to 8, of tables of so many bytes
 unfoldable pub readRule : List ℕ → ℕ → ℕ → ℕ → ℕ
-readRule s orders samples cells = orElse (measureRule s) (tablesRule s orders samples cells)
+readRule s orders samples cells = orElse (measureRule s) (fillingRule s orders samples cells)

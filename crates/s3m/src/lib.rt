@@ -8,7 +8,7 @@ ghost use mathlib.Core.Path.{_≡_};
 ghost use Prim.Native.Nat.{_+_, _≤_};
 ghost use lib.ListN.{length};
 ghost use Rattle.s3m.specs.Layout.{bytesAt};
-ghost use Rattle.s3m.specs.Refusals.{rule6, measureRule, tablesRule, readRule};
+ghost use Rattle.s3m.specs.Refusals.{rule6, measureRule, fillingRule, readRule};
 ghost use Rattle.s3m.specs.Answers.{refusalOf, reading, readNumber, ordersAfter, samplesAfter, cellsAfter};
 use header::Counts;
 use header::counts_of;
@@ -34,7 +34,7 @@ pub struct Reading {
     pub opening: Opening,
 }
 
-fn sizes_rule(c: Counts, orders: usize, samples: usize, cells: usize) -> u8
+fn lengths_rule(c: Counts, orders: usize, samples: usize, cells: usize) -> u8
     requires { ⌜ (c .instruments ≤ 99) × (c .patterns ≤ 100) ⌝ }
     ensures { λ r. ⌜ r ≡ rule6 c orders samples cells ⌝ }
 {
@@ -45,9 +45,9 @@ fn sizes_rule(c: Counts, orders: usize, samples: usize, cells: usize) -> u8
 }
 
 // Rules 6 to 8 of a file that Measure accepts, for tables of so many bytes.
-fn tables_rule(file: &[u8], orders: usize, samples: usize, cells: usize) -> u8
+fn filling_rule(file: &[u8], orders: usize, samples: usize, cells: usize) -> u8
     requires { ⌜ measureRule (now file) ≡ 0 ⌝ }
-    ensures { λ r. ⌜ r ≡ tablesRule (now (file .entry)) orders samples cells ⌝ }
+    ensures { λ r. ⌜ r ≡ fillingRule (now (file .entry)) orders samples cells ⌝ }
 {
     let c = counts_of(file);
     let instruments = 96 + c.orders;
@@ -55,7 +55,7 @@ fn tables_rule(file: &[u8], orders: usize, samples: usize, cells: usize) -> u8
     let rule7 = refusal(7, instruments_past(file, instruments, c.instruments));
     let rule8 = refusal(8, patterns_past(file, patterns, c.patterns));
     first_of(
-        sizes_rule(c, orders, samples, cells),
+        lengths_rule(c, orders, samples, cells),
         first_of(rule7, rule8),
     )
 }
@@ -68,7 +68,7 @@ fn read_rule(file: &[u8], orders: usize, samples: usize, cells: usize) -> u8
     if refused != 0 {
         return refused;
     }
-    tables_rule(file, orders, samples, cells)
+    filling_rule(file, orders, samples, cells)
 }
 
 fn read_orders(file: &[u8], n: usize, orders: &mut [u8])

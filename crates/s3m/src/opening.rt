@@ -3,7 +3,7 @@ ghost use mathlib.Core.Path.{_≡_};
 ghost use Prim.Native.Nat.{_%_, _<_, _≤_};
 ghost use lib.ListN.{length};
 ghost use Rattle.laws.specs.Entries.{tabulate};
-ghost use Rattle.s3m.specs.Layout.{countsOf, panList};
+ghost use Rattle.s3m.specs.Layout.{countsOf, pansAt};
 ghost use Rattle.s3m.specs.Opening.{settingPan, panOf, channelOpening, channelAt, openingOf};
 use packed::entry::bit_of;
 use packed::entry::byte_at;
@@ -53,33 +53,33 @@ fn channel_opening(byte: u8, pans: bool, pan: u8) -> ChannelOpening
 }
 
 // Channel k, with the pans at a place.
-fn channel_at(file: &[u8], pan_list: usize, k: usize) -> ChannelOpening
-    requires { ⌜ (k < 32) × («pan_list» ≡ panList (countsOf (now file))) × («pan_list» < 1000000) ⌝ }
+fn channel_at(file: &[u8], pans_at: usize, k: usize) -> ChannelOpening
+    requires { ⌜ (k < 32) × («pans_at» ≡ pansAt (countsOf (now file))) × («pans_at» < 1000000) ⌝ }
     ensures { λ r. ⌜ r ≡ channelAt (now (file .entry)) k ⌝ }
 {
     let pans = byte_at(file, 53) == 252;
-    channel_opening(byte_at(file, 64 + k), pans, byte_at(file, pan_list + k))
+    channel_opening(byte_at(file, 64 + k), pans, byte_at(file, pans_at + k))
 }
 
-fn channels_of(file: &[u8], pan_list: usize) -> [ChannelOpening; 32]
-    requires { ⌜ («pan_list» ≡ panList (countsOf (now file))) × («pan_list» < 1000000) ⌝ }
+fn channels_of(file: &[u8], pans_at: usize) -> [ChannelOpening; 32]
+    requires { ⌜ («pans_at» ≡ pansAt (countsOf (now file))) × («pans_at» < 1000000) ⌝ }
     ensures { λ r. ⌜ r ≡ tabulate 32 (channelAt (now (file .entry))) ⌝ }
 {
     let mut channels = [channel_opening(0, false, 0); 32];
     let mut k: usize = 0;
     while k < 32 {
-        channels[k] = channel_at(file, pan_list, k);
+        channels[k] = channel_at(file, pans_at, k);
         k += 1;
     }
     channels
 }
 
 // The opening values, with the rate that is handed in.
-pub fn opening_of(file: &[u8], rate: u32, pan_list: usize) -> Opening
-    requires { ⌜ (96 ≤ length (now file)) × («pan_list» ≡ panList (countsOf (now file))) × («pan_list» < 1000000) ⌝ }
+pub fn opening_of(file: &[u8], rate: u32, pans_at: usize) -> Opening
+    requires { ⌜ (96 ≤ length (now file)) × («pans_at» ≡ pansAt (countsOf (now file))) × («pans_at» < 1000000) ⌝ }
     ensures { λ r. ⌜ r ≡ openingOf (now (file .entry)) rate ⌝ }
 {
-    let channels = channels_of(file, pan_list);
+    let channels = channels_of(file, pans_at);
     let flags = wide(file[38]);
     Opening {
         speed: file[49],

@@ -9,4 +9,3 @@ pub mod Sizes
 pub mod Typed
 pub mod Visiting
 pub mod Walks
-pub mod Ordinary

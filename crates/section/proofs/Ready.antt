@@ -14,7 +14,7 @@ use Rattle.laws.proofs.Tables.{at}
 use Rattle.tune.specs.Opening.{rateBroken}
 use Rattle.tune.specs.Sizes.{patternCount}
 use Rattle.tune.proofs.Sized.{sized}
-use Rattle.row_path.specs.Sound.{Settled}
+use Rattle.row_path.specs.Sound.{Bounded}
 use Rattle.row_path.specs.declared.machine.Path.{Path}
 use Rattle.channel.specs.Numbers.{Numbers}
 use Rattle.channel.specs.declared.state.Channel.{Channel}
@@ -28,15 +28,15 @@ use Rattle.section.specs.Section.{pathBroken, channelBroken, stateRule, 
 pub record Ready (t : Tables) (s : State) (n room : ℕ) : Type 0 where
   pub orders : length (t .orders) ≤ 255
   pub cells : length (t .cells) ≡ patternCount (t .cells) * 10240
-  pub path : Settled (s .path)
+  pub path : Bounded (s .path)
   pub start : s .path .clock .start ≤ 2 ^ 62
   pub numbers : (d : Channel) → Numbered d (s .channels)
   pub rows : n ≤ 65535
   pub fits : 536 * n ≤ room
 
-path-settled : (p : Path) → pathBroken p ≡ false → Settled p × (p .clock .start ≤ 2 ^ 62)
+path-bounded : (p : Path) → pathBroken p ≡ false → Bounded p × (p .clock .start ≤ 2 ^ 62)
 unfolding pathBroken
-path-settled p e =
+path-bounded p e =
     let a = or-false (ltb 63 (p .place .row) || ltb 63 (p .«pattern_loop» .«start_row») || eqb (p .clock .speed) 0 || ltb (p .clock .tempo) 32 || ltb (2 ^ 62) (p .clock .start)) (rateBroken (p .clock .rate)) e in
     let b = or-false (ltb 63 (p .place .row) || ltb 63 (p .«pattern_loop» .«start_row») || eqb (p .clock .speed) 0 || ltb (p .clock .tempo) 32) (ltb (2 ^ 62) (p .clock .start)) (a .0) in
     let d = or-false (ltb 63 (p .place .row) || ltb 63 (p .«pattern_loop» .«start_row») || eqb (p .clock .speed) 0) (ltb (p .clock .tempo) 32) (b .0) in
@@ -88,7 +88,7 @@ ready t s n room e =
     let b = sound (stateRule s) (roomRule n room) (a .1) in
     let z = sized (t .orders) (t .cells) (t .samples) (a .0) in
     let p = state-parts s (b .0) in
-    let q = path-settled (s .path) (p .0) in
+    let q = path-bounded (s .path) (p .0) in
     let r = room-parts n room (b .1) in
     record {
       orders = z .orders-most;

@@ -12,11 +12,11 @@ use Rattle.tune.specs.Cells.{rowCells}
 use Rattle.tune.specs.Sizes.{patternCount}
 use Rattle.row_path.specs.Enter.{entered}
 use Rattle.row_path.specs.Leave.{left}
-use Rattle.row_path.specs.Sound.{Settled, SettledEntered}
+use Rattle.row_path.specs.Sound.{Bounded, BoundedEntered}
 use Rattle.row_path.specs.Walk.{Turn, Stop, Row, turnBy, turn}
 use Rattle.row_path.specs.declared.machine.Path.{Path}
 use Rattle.row_path.specs.declared.machine.Entered.{Entered}
-use Rattle.row_path.proofs.Settled.{entered-settled, entered-named, left-settled}
+use Rattle.row_path.proofs.Bounded.{entered-bounded, entered-named, left-bounded}
 use Rattle.row_path.proofs.Unmoved.{entered-clock, entered-size, left-size}
 use Rattle.channel.specs.Channels.{rowVisited}
 use Rattle.channel.specs.declared.channels.Rowed.{Rowed}
@@ -82,7 +82,7 @@ pub record Round (t : Tables) (n : ℕ) (out₀ : List ℕ) (s₀ : State) (out 
   pub records : length (walk t rows s₀ .records) ≡ rows
   pub size : length (joined (walk t rows s₀ .records)) ≡ rows * 536
   pub written : out ≡ joined (walk t rows s₀ .records) ++ drop (rows * 536) out₀
-  pub settled : Settled (s .path)
+  pub bounded : Bounded (s .path)
   pub start : s .path .clock .start ≤ 2 ^ 62 + rows * 2 ^ 32
   pub numbers : (d : Channel) → Numbered d (s .channels)
 
@@ -111,7 +111,7 @@ module _ {t : Tables} {n : ℕ} {out₀ : List ℕ} {s₀ : State} where
         records = refl;
         size = refl;
         written = refl;
-        settled = r .path;
+        bounded = r .path;
         start = omega (arith, r .start);
         numbers = r .numbers;
       }
@@ -126,7 +126,7 @@ module _ {t : Tables} {n : ℕ} {out₀ : List ℕ} {s₀ : State} where
 
     entry : entered (t .orders) (t .cells) (s .path) .path .ended ≡ false → Entry t (entered (t .orders) (t .cells) (s .path))
     entry f =
-        let h = entered-settled (t .orders) (t .cells) (s .path) (I .settled) .path in
+        let h = entered-bounded (t .orders) (t .cells) (s .path) (I .bounded) .path in
         record {
           row = h .row;
           tempo = h .tempo;
@@ -162,7 +162,7 @@ module _ {t : Tables} {n : ℕ} {out₀ : List ℕ} {s₀ : State} where
         let all : joined (walk t (rows + 1) s₀ .records) ≡ joined (walk t rows s₀ .records) ++ bytes =
         ap (λ (z : Walked). joined (z .records)) more ∙ joined-more (walk t rows s₀ .records) bytes in
         let k : rows * 536 + 536 ≡ (rows + 1) * 536 = omega arith in
-        let d = entered-settled (t .orders) (t .cells) (s .path) (I .settled) in
+        let d = entered-bounded (t .orders) (t .cells) (s .path) (I .bounded) in
         let w : p .clock .start ≤ x .path .clock .start + 2 ^ 32 = subst (λ (z : Entered). p .clock .start ≤ z .path .clock .start + 2 ^ 32) q b in
         record {
           some = omega arith;
@@ -179,7 +179,7 @@ module _ {t : Tables} {n : ℕ} {out₀ : List ℕ} {s₀ : State} where
               eo
               ∙ part-onto (joined (walk t rows s₀ .records)) out₀ bytes (rows * 536) 536 (I .size) (I .written)
               ∙ (λ j. sym all j ++ drop (k j) out₀);
-          settled = subst Settled (sym g) (left-settled (t .orders) e (subst SettledEntered (sym q) d));
+          bounded = subst Bounded (sym g) (left-bounded (t .orders) e (subst BoundedEntered (sym q) d));
           start = omega (arith, w, entered-clock (t .orders) (t .cells) (s .path) .1, I .start);
           numbers = m;
         }

@@ -5,3 +5,4 @@ pub mod Records
 pub mod Machines
 pub mod Walk
 pub mod Section
+pub mod Ordinary

@@ -1,10 +1,10 @@
 -- `path_alone::lomqashe_path_rows` meets its contract. Assumes nothing.
 use mathlib.Core.Path.{sym, ap, _∙_, subst⁻¹}
 use borrow.Author.Needs.{needs}
-use Rattle.row_path.specs.Sound.{Settled}
+use Rattle.row_path.specs.Sound.{Bounded}
 use Rattle.row_path.specs.declared.machine.Path.{Path}
 use Rattle.path_alone.specs.Rows.{pathRows}
-use Rattle.path_alone.proofs.Counting.{within, from-settled}
+use Rattle.path_alone.proofs.Counting.{within, from-bounded}
 use Rattle.path_alone.proofs.lomqashe_path_rows.Statement.{statement}
 use Rattle.path_alone.proofs.lomqashe_path_rows.Tie as tie
 
@@ -22,8 +22,8 @@ count-requires : tie.Need-count-requires
 count-requires c κs =
     let a = c .before .before .before .before .before .args in
     let w = within _ (a .tempo) (a .rate) (a .n) (sym (c .before .before .is-beyond .ensures) ∙ c .before .if1 .left) in
-    let f = from-settled (a .speed) (a .tempo) (a .rate) (w .1) (w .2) in
-    (w .0, subst⁻¹ Settled (c .first-path .ensures) (f .0), ap (λ (p : Path). p .clock .start) (c .first-path .ensures) ∙ f .1, w .3)
+    let f = from-bounded (a .speed) (a .tempo) (a .rate) (w .1) (w .2) in
+    (w .0, subst⁻¹ Bounded (c .first-path .ensures) (f .0), ap (λ (p : Path). p .clock .start) (c .first-path .ensures) ∙ f .1, w .3)
 
 returns-2 : tie.Need-returns-2
 unfolding pathRows

@@ -3,7 +3,7 @@ use denote.Ref.{now}
 use mathlib.Core.Path.{sym, ap, _∙_}
 use native.Mathlib.Omega.{arith}
 use borrow.Author.Tests.{eq-eqb, ne-eqb}
-use Rattle.s3m.specs.Layout.{panList}
+use Rattle.s3m.specs.Layout.{pansAt}
 use Rattle.s3m.specs.Answers.{reading, ordersAfter, samplesAfter, cellsAfter}
 use Rattle.s3m.proofs.Accepted.{accepted, listed, ready, read-measured}
 use borrow.Author.Needs.{needs}
@@ -71,7 +71,7 @@ opening-of-requires c κs =
     let n = c .before .before .before .before .before .before .before .before .before .before .before .before .before .before .before .counts-of in
     let r = ready (now (a .file)) (n .result) _ _ _ (n .ensures .0) (sym (c .before .before .before .before .before .before .before .before .before .before .before .before .before .before .before .before .before .read-rule .ensures) ∙ c .before .before .before .before .before .before .before .before .before .before .before .before .before .before .before .before .if1 .left) in
     let l = listed (now (a .file)) (n .result) (n .ensures .0) (r .measured) in
-    (accepted _ (r .measured) .long, ap panList (n .ensures .0), omega (arith, l .orders-few, l .instruments-few, l .patterns-few))
+    (accepted _ (r .measured) .long, ap pansAt (n .ensures .0), omega (arith, l .orders-few, l .instruments-few, l .patterns-few))
 
 same-length : tie.Need-same-length
 same-length c = search needs

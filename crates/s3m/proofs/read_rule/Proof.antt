@@ -13,12 +13,12 @@ returns : tie.Need-returns
 unfolding readRule
 returns c = refused _ _ refl (c .before .measure-rule .ensures) (c .if1 .taken)
 
-tables-rule-requires : tie.Need-tables-rule-requires
-tables-rule-requires c κs = search needs
+filling-rule-requires : tie.Need-filling-rule-requires
+filling-rule-requires c κs = search needs
 
 returns-2 : tie.Need-returns-2
 unfolding readRule
-returns-2 c = c .tables-rule .ensures ∙ sym (passed _ _ refl (c .before .before .measure-rule .ensures) (c .before .if1 .left))
+returns-2 c = c .filling-rule .ensures ∙ sym (passed _ _ refl (c .before .before .measure-rule .ensures) (c .before .if1 .left))
 
 pub read-rule-spec : {M : Type 1} → statement M
-read-rule-spec = tie.close (tie.spec measure-rule-requires returns tables-rule-requires returns-2)
+read-rule-spec = tie.close (tie.spec measure-rule-requires returns filling-rule-requires returns-2)

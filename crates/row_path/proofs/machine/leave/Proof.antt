@@ -3,7 +3,7 @@ use Prim.Native.Nat.{_≤_}
 use mathlib.Core.Path.{_≡_, _∙_}
 use native.Mathlib.Omega.{arith}
 use Rattle.row_path.specs.Leave.{left}
-use Rattle.row_path.proofs.Settled.{left-within}
+use Rattle.row_path.proofs.Bounded.{left-within}
 use borrow.Author.Needs.{needs}
 use Rattle.row_path.proofs.machine.leave.Statement.{statement}
 use Rattle.row_path.proofs.machine.leave.Tie as tie

@@ -10,7 +10,7 @@ use Rattle.tune.specs.Sizes.{patternCount}
 use Rattle.row_path.specs.Orders.{skipped, patternAt}
 use Rattle.row_path.specs.Enter.{endedAt, arrived, acted, visited, enteredAt, entered}
 use Rattle.row_path.specs.Leave.{lengthOf, left}
-use Rattle.row_path.specs.Sound.{Settled, SettledEntered}
+use Rattle.row_path.specs.Sound.{Bounded, BoundedEntered}
 use Rattle.row_path.specs.declared.option.ByteOption.{ByteOption}
 use Rattle.row_path.specs.declared.option.ByteOption.the-variants.{None, Some}
 use Rattle.row_path.specs.declared.machine.Path.{Path}
@@ -26,21 +26,21 @@ Any x = Unit
 abbrev Rate : ℕ → Type 0
 Rate x = x ≤ 100000
 
-parts : (p : Path) → Settled p → Keeps Any Any Rate p
+parts : (p : Path) → Bounded p → Keeps Any Any Rate p
 parts p h = record { order = tt; row = h .row; start-row = h .start-row; speed = tt; tempo = h .tempo; rate = h .rate }
 
-whole : (p : Path) → Keeps Any Any Rate p → Settled p
+whole : (p : Path) → Keeps Any Any Rate p → Bounded p
 whole p k = record { row = k .row; start-row = k .start-row; tempo = k .tempo; rate = k .rate }
 
--- enter keeps a settled path settled, and the jump that it leaves is one to a pattern's row
-pub entered-settled : (orders cells : List ℕ) (p : Path) → Settled p → SettledEntered (entered orders cells p)
-entered-settled orders cells p h =
+-- enter keeps a bounded path bounded, and the jump that it leaves is one to a pattern's row
+pub entered-bounded : (orders cells : List ℕ) (p : Path) → Bounded p → BoundedEntered (entered orders cells p)
+entered-bounded orders cells p h =
     let k = entered-keeps Any Any Any Rate (λ _ _. tt) (λ _ _ _. tt) (λ _. tt) orders cells p (λ _ _ _. tt) tt (parts p h) in
     record { path = whole (entered orders cells p .path) (k .0); jump = k .1 }
 
--- leave keeps a settled path settled
-pub left-settled : (orders : List ℕ) (e : Entered) → SettledEntered e → Settled (left orders e)
-left-settled orders e s = whole (left orders e) (left-keeps Any Any Any Rate (λ _ _. tt) (λ _ _ _. tt) (λ _. tt) orders e (parts (e .path) (s .path)) (s .jump))
+-- leave keeps a bounded path bounded
+pub left-bounded : (orders : List ℕ) (e : Entered) → BoundedEntered e → Bounded (left orders e)
+left-bounded orders e s = whole (left orders e) (left-keeps Any Any Any Rate (λ _ _. tt) (λ _ _ _. tt) (λ _. tt) orders e (parts (e .path) (s .path)) (s .jump))
 
 visited-pattern : (cells : List ℕ) (p : Path) (pattern : ℕ) → visited cells p pattern .pattern ≡ pattern
 unfolding visited acted

@@ -1,11 +1,11 @@
--- `s3m::tables_rule` meets its contract. Assumes nothing.
+-- `s3m::filling_rule` meets its contract. Assumes nothing.
 use denote.Ref.{now}
 use mathlib.Core.Path.{_∙_}
-use Rattle.s3m.specs.Refusals.{tablesRule}
+use Rattle.s3m.specs.Refusals.{fillingRule}
 use Rattle.s3m.proofs.Accepted.{accepted, listed}
 use borrow.Author.Needs.{needs}
-use Rattle.s3m.proofs.tables_rule.Statement.{statement}
-use Rattle.s3m.proofs.tables_rule.Tie as tie
+use Rattle.s3m.proofs.filling_rule.Statement.{statement}
+use Rattle.s3m.proofs.filling_rule.Tie as tie
 
 counts-of-requires : tie.Need-counts-of-requires
 counts-of-requires c κs = accepted (now (c .before .args .file)) (c .before .pre) .long
@@ -31,8 +31,8 @@ patterns-past-requires c κs = let l = listed (now (c .before .before .before .b
 refusal-requires-2 : tie.Need-refusal-requires-2
 refusal-requires-2 c κs = search needs
 
-sizes-rule-requires : tie.Need-sizes-rule-requires
-sizes-rule-requires c κs = let l = listed (now (c .before .before .before .before .before .before .before .before .args .file)) (c .before .before .before .before .before .before .counts-of .result) (c .before .before .before .before .before .before .counts-of .ensures .0) (c .before .before .before .before .before .before .before .before .pre) in (l .instruments-few, l .patterns-few)
+lengths-rule-requires : tie.Need-lengths-rule-requires
+lengths-rule-requires c κs = let l = listed (now (c .before .before .before .before .before .before .before .before .args .file)) (c .before .before .before .before .before .before .counts-of .result) (c .before .before .before .before .before .before .counts-of .ensures .0) (c .before .before .before .before .before .before .before .before .pre) in (l .instruments-few, l .patterns-few)
 
 first-of-requires : tie.Need-first-of-requires
 first-of-requires c κs = search needs
@@ -41,13 +41,13 @@ first-of-requires-2 : tie.Need-first-of-requires-2
 first-of-requires-2 c κs = search needs
 
 returns : tie.Need-returns
-unfolding tablesRule
+unfolding fillingRule
 returns c =
     c .first-of2 .ensures
-    ∙ rw (c .before .before .sizes-rule .ensures, c .before .first-of .ensures, c .before .before .before .before .before .refusal .ensures, c .before .before .before .refusal2 .ensures, c .before .before .before .before .before .before .instruments-past .ensures, c .before .before .before .before .patterns-past .ensures, c .before .before .before .before .before .before .before .before .before .counts-of .ensures .0)
+    ∙ rw (c .before .before .lengths-rule .ensures, c .before .first-of .ensures, c .before .before .before .before .before .refusal .ensures, c .before .before .before .refusal2 .ensures, c .before .before .before .before .before .before .instruments-past .ensures, c .before .before .before .before .patterns-past .ensures, c .before .before .before .before .before .before .before .before .before .counts-of .ensures .0)
 
-pub tables-rule-spec : {M : Type 1} → statement M
-tables-rule-spec =
+pub filling-rule-spec : {M : Type 1} → statement M
+filling-rule-spec =
     tie.close
     (tie.spec
     counts-of-requires
@@ -58,7 +58,7 @@ tables-rule-spec =
     refusal-requires
     patterns-past-requires
     refusal-requires-2
-    sizes-rule-requires
+    lengths-rule-requires
     first-of-requires
     first-of-requires-2
     returns)
