@@ -15,6 +15,8 @@ use pitch::finetune::finetune;
 use pitch::frequency::note_to_frequency;
 use pitch::limits::clamp_amiga;
 use pitch::slides::fine_slide;
+use tune::numbers::high_nibble;
+use tune::numbers::low_nibble;
 
 // A frequency slid finely, within the Amiga limits.
 fn slide_frequency(f: f32, up: bool, info: u8, amiga: bool) -> f32
@@ -106,12 +108,12 @@ pub fn act(c: Channel, table: &[u32], w: Switches) -> Channel
     let command = c.command;
     match command {
         4 => {
-            d.volume = slide_volume(c.volume, c.info / 16, c.info % 16, w.fast_slides);
+            d.volume = slide_volume(c.volume, high_nibble(c.info), low_nibble(c.info), w.fast_slides);
             d
         }
         5 => slide_finely(c, false, w.amiga_limits),
         6 => slide_finely(c, true, w.amiga_limits),
-        19 => extended(c, c.info / 16, c.info % 16, table, w.amiga_limits),
+        19 => extended(c, high_nibble(c.info), low_nibble(c.info), table, w.amiga_limits),
         24 => {
             d.pan = set_pan(c.info);
             d

@@ -13,18 +13,20 @@ use crate::state::Played;
 use crate::state::Switches;
 use crate::state::TriggerOption;
 use tune::cells::Cell;
+use tune::numbers::high_nibble;
+use tune::numbers::low_nibble;
 
 fn is_note_delay(command: u8, info: u8) -> bool
     ensures { λ r. ⌜ r ≡ putsOff command info ⌝ }
 {
-    (command == 19) & (info / 16 == 0xD) & (info % 16 != 0)
+    (command == 19) & (high_nibble(info) == 0xD) & (low_nibble(info) != 0)
 }
 
 fn put_off(cell: Cell, info: u8) -> TriggerOption
     ensures { λ r. ⌜ r ≡ putOff cell info ⌝ }
 {
     TriggerOption::Some(PendingTrigger {
-        fire_tick: info % 16,
+        fire_tick: low_nibble(info),
         note: cell.note,
         instrument: cell.instrument,
         volume: cell.volume,

@@ -9,12 +9,14 @@ use borrow.Author.Tests.{eq-eqb, ne-eqb}
 use lib.Dec.{eqb}
 use lib.ListN.{length}
 use Rattle.laws.specs.Choice.{pick}
+use Rattle.laws.specs.Refusals.{Said, said}
 use Rattle.tune.specs.Opening.{blankOpening}
 use Rattle.tune.specs.declared.opening.Opening.{Opening}
 use Rattle.s3m.specs.Layout.{countsOf}
 use Rattle.s3m.specs.Refusals.{measureRule}
 use Rattle.s3m.specs.Opening.{openingOf}
-use Rattle.s3m.specs.Answers.{measured, measuredNumber, refusalOf, reading, ordersAfter, samplesAfter, cellsAfter}
+use Rattle.s3m.specs.Answers.{measured, measuredSays, refusalOf, reading, ordersAfter, samplesAfter, cellsAfter}
+use Rattle.s3m.specs.declared.header.Counts.{Counts}
 use Rattle.s3m.specs.declared.header.Measured.{Measured}
 use Rattle.s3m.specs.declared.header.Measured.the-variants.{Found, Refused}
 use Rattle.s3m.specs.declared.Reading.{Reading}
@@ -59,11 +61,13 @@ module _ (file counts : List ℕ) where
       by-test true = refl
       by-test false = refl
 
-  pub measure-given : (m : Measured) → length counts ≡ 12 → m ≡ measured file → measuredNumber m ≡ measureRule file → (answerOf (measuredNumber m) 0 ≡ answerOf (measureRefusal file counts) 0) × (countsBy m counts ≡ countsAfter file (measureRefusal file counts) counts)
+  pub measure-given : {result m : Measured} → result ≡ m → length counts ≡ 12 → result ≡ measured file → measuredSays result ≡ said (measureRule file) (countsOf file)
+      → (answerOf (measuredSays m .number) 0 ≡ answerOf (measureRefusal file counts) 0) × (countsBy m counts ≡ countsAfter file (measureRefusal file counts) counts)
   unfolding measureRefusal
-  measure-given m h e n =
+  measure-given g h e n =
       let r = same-length (length counts) 12 (measureRule file) wrong h in
-      (ap (λ (r : ℕ). answerOf r 0) (n ∙ sym r), ap (λ (m : Measured). countsBy m counts) e ∙ by-rule ∙ ap (λ (r : ℕ). countsAfter file r counts) (sym r))
+      let m = ap (λ (s : Said Counts). s .number) (ap measuredSays (sym g) ∙ n) in
+      (ap (λ (r : ℕ). answerOf r 0) (m ∙ sym r), ap (λ (m : Measured). countsBy m counts) (sym g ∙ e) ∙ by-rule ∙ ap (λ (r : ℕ). countsAfter file r counts) (sym r))
 
 -- Read
 module _ (file orders samples cells opening : List ℕ) where

@@ -2,9 +2,11 @@
 use Prim.Native.Nat.{ℕ, _+_, _*_, _^_}
 use mathlib.Core.Path.{_≡_}
 use mathlib.Core.List.{List, _++_}
+use mathlib.Core.Option.{Option, none, some}
 use lib.Dec.{eqb}
 use lib.ListN.{length}
 use Rattle.laws.specs.Choice.{pick}
+use Rattle.laws.specs.Refusals.{Said}
 use Rattle.s3m.specs.Layout.{countsOf}
 use Rattle.s3m.specs.Opening.{openingOf}
 use Rattle.s3m.specs.Refusals.{measureRule}
@@ -17,9 +19,9 @@ use Rattle.tune.specs.Numbers.{bytesOf, flag}
 use Rattle.section.specs.Open.{freshState, openRule}
 use Rattle.section.specs.Section.{sectionOf, sectioned, outputAfter}
 use Rattle.section.specs.declared.state.Sectioned.{Sectioned}
+use Rattle.sheet.specs.Records.{answerSays}
 use Rattle.sheet.specs.Listing.{StrikesGive}
 use Rattle.sheet.specs.declared.answer.Answer.{Answer}
-use Rattle.sheet.specs.declared.answer.Answer.the-variants.{Done, Refused}
 use Rattle.s3m.specs.declared.ReadAnswer.the-variants as Read
 use Rattle.lomqashe.specs.Openings.{openingSize, openingBytes, openingAt}
 use Rattle.lomqashe.specs.States.{stateSize, stateBytes, stateOf}
@@ -94,13 +96,16 @@ unfoldable pub recordsAfter : Tables → List ℕ → ℕ → List ℕ → List 
 recordsAfter t state n output =
     pick (eqb (length state) stateSize) (outputAfter output (sectionOf t (stateOf state) n (length output))) output
 
--- an answer of Strikes or Line in one number
-abbrev pub recordAnswer : Answer → ℕ
-recordAnswer (Done n) = answerOf 0 n
-recordAnswer (Refused x) = answerOf x 0
+-- what Strikes or Line says in one number
+abbrev given : Option ℕ → ℕ
+given none = 0
+given (some n) = n
+
+abbrev pub inOne : Said ℕ → ℕ
+inOne s = answerOf (s .number) (given (s .values))
 
 -- Strikes: the number is that of an answer which Strikes may give with these bytes before and after
 pub record StrikesNumber (row before after : List ℕ) (n : ℕ) : Type 0 where
   pub answer : Answer
   pub gives : StrikesGive row before after answer
-  pub number : n ≡ recordAnswer answer
+  pub number : n ≡ inOne (answerSays answer)

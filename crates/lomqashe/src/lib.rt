@@ -10,14 +10,15 @@ pub mod state;
 ghost use mathlib.Core.Path.{_≡_};
 ghost use Prim.Native.Nat.{_+_, _*_, _<_};
 ghost use lib.ListN.{length};
-ghost use Rattle.s3m.specs.Answers.{readNumber, ordersAfter, samplesAfter, cellsAfter};
+ghost use Rattle.s3m.specs.Answers.{readSays, ordersAfter, samplesAfter, cellsAfter};
 ghost use Rattle.section.specs.Tables.{lent};
 ghost use Rattle.tune.specs.Numbers.{flag};
 ghost use Rattle.section.specs.Open.{freshState};
-ghost use Rattle.sheet.specs.Lines.{lineAnswer, lineOutput};
+ghost use Rattle.sheet.specs.Listing.{strikesSay};
+ghost use Rattle.sheet.specs.Lines.{lineSays, lineOutput};
 ghost use Rattle.lomqashe.specs.Openings.{openingAt};
 ghost use Rattle.lomqashe.specs.States.{stateOf};
-ghost use Rattle.lomqashe.specs.Answers.{answerOf, countBytes, measureRefusal, countsAfter, readRefusal, openingBy, openingAfter, openRefusal, stateOpened, sectionBy, sectionAnswer, stateAfter, recordsAfter, recordAnswer, StrikesNumber};
+ghost use Rattle.lomqashe.specs.Answers.{answerOf, countBytes, measureRefusal, countsAfter, readRefusal, openingBy, openingAfter, openRefusal, stateOpened, sectionBy, sectionAnswer, stateAfter, recordsAfter, inOne, StrikesNumber};
 use opening::opening_of;
 use opening::put_opening;
 use s3m::ReadAnswer;
@@ -96,7 +97,7 @@ pub extern "C" fn lomqashe_measure(file: &[u8], counts: &mut [u8]) -> u32
 
 fn answer_read(answer: ReadAnswer, opening: &mut [u8], o: Opening) -> u32
     requires { ⌜ length (now opening) ≡ 144 ⌝ }
-    ensures answer { λ r. ⌜ r ≡ answerOf (readNumber answer) 0 ⌝ }
+    ensures answer { λ r. ⌜ r ≡ answerOf (readSays answer o .number) 0 ⌝ }
     ensures written { λ _. ⌜ now (opening .exit) ≡ openingBy answer o (now (opening .entry)) ⌝ }
 {
     match answer {
@@ -199,7 +200,8 @@ pub extern "C" fn lomqashe_section(
 // Strikes: gives the number of struck channels.
 #[no_mangle]
 pub extern "C" fn lomqashe_strikes(row: &[u8], out: &mut [u8]) -> u32
-    ensures { λ r. ⌜ StrikesNumber (now (row .entry)) (now (out .entry)) (now (out .exit)) r ⌝ }
+    ensures answer { λ r. ⌜ r ≡ inOne (strikesSay (now (row .entry)) (now (out .entry))) ⌝ }
+    ensures written { λ r. ⌜ StrikesNumber (now (row .entry)) (now (out .entry)) (now (out .exit)) r ⌝ }
 {
     match strikes(row, out) {
         Answer::Done(n) => n as u32,
@@ -210,7 +212,7 @@ pub extern "C" fn lomqashe_strikes(row: &[u8], out: &mut [u8]) -> u32
 // Line: gives the number of bytes written.
 #[no_mangle]
 pub extern "C" fn lomqashe_line(row: &[u8], out: &mut [u8]) -> u32
-    ensures answer { λ r. ⌜ r ≡ recordAnswer (lineAnswer (now (row .entry)) (now (out .entry))) ⌝ }
+    ensures answer { λ r. ⌜ r ≡ inOne (lineSays (now (row .entry)) (now (out .entry))) ⌝ }
     ensures written { λ _. ⌜ now (out .exit) ≡ lineOutput (now (row .entry)) (now (out .entry)) ⌝ }
 {
     match line(row, out) {

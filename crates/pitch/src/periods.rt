@@ -2,6 +2,8 @@
 ghost use mathlib.Core.Path.{_≡_};
 ghost use Prim.Native.Nat.{_<_};
 ghost use Rattle.pitch.specs.Periods.{periods, periodOf, noteNumber};
+use tune::numbers::high_nibble;
+use tune::numbers::low_nibble;
 
 const PERIODS: [u32; 108] = [
     27392,
@@ -133,6 +135,6 @@ pub fn period(n: usize, table: &[u32]) -> u32
 pub fn note_number(note: u8) -> usize
     ensures { λ r. ⌜ r ≡ noteNumber note ⌝ ∗ ⌜ r < 108 ⌝ }
 {
-    let n = (note / 16) as usize * 12 + (note % 16) as usize;
+    let n = high_nibble(note) as usize * 12 + low_nibble(note) as usize;
     if n < 107 { n } else { 107 }
 }

@@ -4,6 +4,7 @@ ghost use Prim.Native.Nat.{_<_, _≤_};
 ghost use lib.Dec.{leb};
 ghost use Rattle.laws.specs.Choice.{pick};
 ghost use Rattle.pitch.specs.Slides.{factorOf, factorNumber, slid};
+use tune::numbers::low_nibble;
 
 const FACTORS: [f32; 64] = [
     1.0,
@@ -97,7 +98,7 @@ fn half(info: u8) -> usize
 fn factor_number(up: bool, info: u8) -> usize
     ensures { λ r. ⌜ r ≡ factorNumber up info ⌝ ∗ ⌜ r < 64 ⌝ }
 {
-    group(up) + half(info) + (info % 16) as usize
+    group(up) + half(info) + low_nibble(info) as usize
 }
 
 // A frequency slid by a fine E (down) or F (up).

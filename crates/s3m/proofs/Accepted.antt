@@ -2,6 +2,7 @@
 use mathlib.Core.Path.{_≡_, sym, ap, _∙_, subst⁻¹}
 use mathlib.Core.Bool.{Bool, true, false, _&&_, _||_}
 use mathlib.Core.List.{List}
+use mathlib.Core.Option.{Option, none, some}
 use Prim.Native.Nat.{ℕ, _+_, _*_, _≤_, _<_}
 use native.Mathlib.Omega.{arith}
 use native.Mathlib.Nat.{le-trans}
@@ -9,14 +10,15 @@ use lib.Dec.{eqb, ltb}
 use lib.ListN.{length}
 use borrow.Author.Tests.{ltb-false, eqb-true, not-false}
 use Rattle.laws.specs.Choice.{pick}
+use Rattle.laws.specs.Refusals.{Said, said}
 use Rattle.laws.proofs.Picks.{and-true, or-false}
 use Rattle.laws.proofs.Rules.{sound, kept}
 use Rattle.s3m.specs.Layout.{countsOf, instrumentsAt, pansAt, hasPans, listsEnd}
 use Rattle.s3m.specs.Instruments.{instrumentsPast}
 use Rattle.s3m.specs.declared.header.Counts.{Counts}
 use Rattle.s3m.specs.declared.header.Measured.{Measured}
-use Rattle.s3m.specs.declared.header.Measured.the-variants.{Found, Refused}
-use Rattle.s3m.specs.Answers.{measured, measuredNumber}
+use Rattle.s3m.specs.declared.header.Measured.the-variants.{Found}
+use Rattle.s3m.specs.Answers.{measuredSays}
 use Rattle.s3m.specs.Refusals.{rule1, rule2, rule3, rule4, rule5, rule6, rule7, rule8, headerRule, measureRule, fillingRule, readRule}
 
 pub record Accepted (s : List ℕ) : Type 0 where
@@ -99,10 +101,13 @@ ready s c orders samples cells e r =
     })
 
 -- the same of counts that Measure finds
-pub found-listed : (s : List ℕ) (c : Counts) → Found c ≡ measured s → measuredNumber (Found c) ≡ measureRule s → Listed s c
-unfolding measured
-found-listed s c e m = let found : measured s ≡ Found (countsOf s) = rw (sym m) in listed s c (ap counts (e ∙ found)) (sym m)
+pub found-listed : (s : List ℕ) (c : Counts) {m : Measured} → m ≡ Found c → measuredSays m ≡ said (measureRule s) (countsOf s) → Listed s c
+found-listed s c e m =
+    let says = ap measuredSays (sym e) ∙ m in
+    let zero = sym (ap (λ (x : Said Counts). x .number) says) in
+    let values : some c ≡ some (countsOf s) = ap (λ (x : Said Counts). x .values) says ∙ rw zero in
+    listed s c (ap counts values) zero
   where
-    counts : Measured → Counts
-    counts (Found n) = n
-    counts (Refused n) = countsOf s
+    counts : Option Counts → Counts
+    counts (some n) = n
+    counts none = countsOf s

@@ -1,10 +1,13 @@
 -- What Measure and Read answer, and what they leave in the lent tables. Assumes nothing.
 use Prim.Native.Nat.{ℕ}
 use mathlib.Core.List.{List}
+use mathlib.Core.Option.{none, some}
 use lib.Dec.{eqb}
 use lib.ListN.{length}
 use Rattle.laws.specs.Choice.{pick}
+use Rattle.laws.specs.Refusals.{Said}
 use Rattle.tune.specs.Opening.{blankOpening}
+use Rattle.tune.specs.declared.opening.Opening.{Opening}
 use Rattle.s3m.specs.Layout.{countsOf, instrumentsAt, patternsAt, bytesAt}
 use Rattle.s3m.specs.Instruments.{samplesOf}
 use Rattle.s3m.specs.Patterns.{cellsOf}
@@ -22,10 +25,10 @@ use Rattle.s3m.specs.declared.Reading.{Reading}
 unfoldable pub measured : List ℕ → Measured
 measured s = pick (eqb (measureRule s) 0) (Found (countsOf s)) (Refused (measureRule s))
 
--- the number in 01's list, 0 where the call did not refuse
-abbrev pub measuredNumber : Measured → ℕ
-measuredNumber (Found c) = 0
-measuredNumber (Refused n) = n
+-- the number in 01's list and the values of each case
+abbrev pub measuredSays : Measured → Said Counts
+measuredSays (Found c) = record { number = 0; values = some c }
+measuredSays (Refused n) = record { number = n; values = none }
 
 -- why Read says no to a file and three lent tables, 0 where it does not
 abbrev pub refusalOf : List ℕ → List ℕ → List ℕ → List ℕ → ℕ
@@ -38,9 +41,10 @@ reading s rate rule =
     (record { answer = Done; opening = openingOf s rate })
     (record { answer = ReadAnswer.Refused rule; opening = blankOpening })
 
-abbrev pub readNumber : ReadAnswer → ℕ
-readNumber Done = 0
-readNumber (ReadAnswer.Refused n) = n
+-- the number and the values of each case, which stand beside the answer
+abbrev pub readSays : ReadAnswer → Opening → Said Opening
+readSays Done o = record { number = 0; values = some o }
+readSays (ReadAnswer.Refused n) o = record { number = n; values = none }
 
 -- the three tables behind it: filled, or as they were
 unfoldable pub ordersAfter : List ℕ → ℕ → List ℕ → List ℕ

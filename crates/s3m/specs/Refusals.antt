@@ -5,7 +5,6 @@ use mathlib.Core.List.{List}
 use lib.Dec.{eqb, ltb}
 use lib.ListN.{getD, length}
 use Rattle.laws.specs.Refusals.{refuse, orElse}
-use Rattle.tune.specs.Numbers.{littleAt}
 use Rattle.tune.specs.Opening.{levelsBroken}
 use Rattle.s3m.specs.Layout.{countsOf, instrumentsAt, patternsAt, listsEnd}
 use Rattle.s3m.specs.Instruments.{instrumentsPast}
@@ -16,9 +15,9 @@ use Rattle.s3m.specs.declared.header.Counts.{Counts}
 abbrev pub rule1 : List ℕ → ℕ
 rule1 s = refuse 1 (ltb (length s) 96)
 
--- 2: bytes 44 to 47 are not SCRM
+-- 2: bytes 44 to 47 are not S, C, R, M
 abbrev pub rule2 : List ℕ → ℕ
-rule2 s = refuse 2 (not (eqb (littleAt 4 s 44) 0x4D524353))
+rule2 s = refuse 2 (not (eqb (getD s 44 0) 0x53 && eqb (getD s 45 0) 0x43 && eqb (getD s 46 0) 0x52 && eqb (getD s 47 0) 0x4D))
 
 -- 3: there are 0 or over 255 orders, over 99 instruments or over 100 patterns
 abbrev pub rule3 : Counts → ℕ

@@ -2,11 +2,11 @@
 ghost use mathlib.Core.Path.{_≡_};
 ghost use Prim.Native.Nat.{_≤_, _<_};
 ghost use lib.ListN.{length};
+ghost use Rattle.laws.specs.Refusals.{said};
 ghost use Rattle.s3m.specs.Layout.{countsOf, listsEnd};
 ghost use Rattle.s3m.specs.Refusals.{rule2, rule3, rule4, rule5, headerRule, measureRule};
-ghost use Rattle.s3m.specs.Answers.{measured, measuredNumber};
+ghost use Rattle.s3m.specs.Answers.{measured, measuredSays};
 use tune::numbers::u16_at;
-use tune::numbers::u32_at;
 use tune::opening::levels_broken;
 use tune::refusals::first_of;
 use tune::refusals::refusal;
@@ -39,7 +39,8 @@ fn mark_rule(file: &[u8]) -> u8
     requires { ⌜ 96 ≤ length (now file) ⌝ }
     ensures { λ r. ⌜ r ≡ rule2 (now (file .entry)) ⌝ }
 {
-    refusal(2, u32_at(file, 44) != 0x4D524353)
+    let there = (file[44] == b'S') & (file[45] == b'C') & (file[46] == b'R') & (file[47] == b'M');
+    refusal(2, !there)
 }
 
 fn counts_rule(c: Counts) -> u8
@@ -96,7 +97,7 @@ pub fn measure_rule(file: &[u8]) -> u8
 // Measure: the numbers of orders, instruments and patterns, or why not.
 pub fn measure(file: &[u8]) -> Measured
     ensures { λ r. ⌜ r ≡ measured (now (file .entry)) ⌝ }
-    ensures { λ r. ⌜ measuredNumber r ≡ measureRule (now (file .entry)) ⌝ }
+    ensures { λ r. ⌜ measuredSays r ≡ said (measureRule (now (file .entry))) (countsOf (now (file .entry))) ⌝ }
 {
     let refused = measure_rule(file);
     if refused != 0 {

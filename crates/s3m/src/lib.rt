@@ -7,9 +7,11 @@ pub mod patterns;
 ghost use mathlib.Core.Path.{_≡_};
 ghost use Prim.Native.Nat.{_+_, _≤_};
 ghost use lib.ListN.{length};
+ghost use Rattle.laws.specs.Refusals.{said};
 ghost use Rattle.s3m.specs.Layout.{bytesAt};
+ghost use Rattle.s3m.specs.Opening.{openingOf};
 ghost use Rattle.s3m.specs.Refusals.{rule6, measureRule, fillingRule, readRule};
-ghost use Rattle.s3m.specs.Answers.{refusalOf, reading, readNumber, ordersAfter, samplesAfter, cellsAfter};
+ghost use Rattle.s3m.specs.Answers.{refusalOf, reading, readSays, ordersAfter, samplesAfter, cellsAfter};
 use header::Counts;
 use header::counts_of;
 use header::measure_rule;
@@ -88,7 +90,7 @@ pub fn read(
     cells: &mut [u8],
 ) -> Reading
     ensures { λ r. ⌜ r ≡ reading (now (file .entry)) rate (refusalOf (now (file .entry)) (now (orders .entry)) (now (samples .entry)) (now (cells .entry))) ⌝ }
-    ensures { λ r. ⌜ readNumber (r .answer) ≡ refusalOf (now (file .entry)) (now (orders .entry)) (now (samples .entry)) (now (cells .entry)) ⌝ }
+    ensures { λ r. ⌜ readSays (r .answer) (r .opening) ≡ said (refusalOf (now (file .entry)) (now (orders .entry)) (now (samples .entry)) (now (cells .entry))) (openingOf (now (file .entry)) rate) ⌝ }
     ensures { λ _. ⌜ now (orders .exit) ≡ ordersAfter (now (file .entry)) (refusalOf (now (file .entry)) (now (orders .entry)) (now (samples .entry)) (now (cells .entry))) (now (orders .entry)) ⌝ }
     ensures { λ _. ⌜ now (samples .exit) ≡ samplesAfter (now (file .entry)) (refusalOf (now (file .entry)) (now (orders .entry)) (now (samples .entry)) (now (cells .entry))) (now (samples .entry)) ⌝ }
     ensures { λ _. ⌜ now (cells .exit) ≡ cellsAfter (now (file .entry)) (refusalOf (now (file .entry)) (now (orders .entry)) (now (samples .entry)) (now (cells .entry))) (now (cells .entry)) ⌝ }

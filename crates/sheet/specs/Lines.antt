@@ -4,11 +4,10 @@ use mathlib.Core.List.{List, [], _∷_, _++_}
 use lib.Dec.{ltb}
 use lib.ListN.{length, getD, drop}
 use Rattle.laws.specs.Choice.{pick}
+use Rattle.laws.specs.Refusals.{Said, said}
 use Rattle.tune.specs.Numbers.{littleAt}
 use Rattle.section.specs.Records.{startAt, lengthAt}
 use Rattle.sheet.specs.Records.{recordRule, strikeCount}
-use Rattle.sheet.specs.declared.answer.Answer.{Answer}
-use Rattle.sheet.specs.declared.answer.Answer.the-variants.{Done, Refused}
 
 -- a number of at most n digits in digits
 unfoldable pub decimal : ℕ → ℕ → List ℕ
@@ -35,12 +34,8 @@ unfoldable pub lineOf : List ℕ → List ℕ
 lineOf r = spelled (lineFields r)
 
 -- how many bytes it wrote, or rule 13's number
-unfoldable pub lineBy : ℕ → List ℕ → Answer
-lineBy zero r = Done (length (lineOf r))
-lineBy (suc x) r = Refused (suc x)
-
-abbrev pub lineAnswer : List ℕ → List ℕ → Answer
-lineAnswer r out = lineBy (recordRule r (length out) 64) r
+abbrev pub lineSays : List ℕ → List ℕ → Said ℕ
+lineSays r out = said (recordRule r (length out) 64) (length (lineOf r))
 
 -- the output behind the call: the line, and the bytes behind it as they were
 unfoldable pub outputBy : ℕ → List ℕ → List ℕ → List ℕ

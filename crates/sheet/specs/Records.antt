@@ -2,10 +2,11 @@
 use Prim.Native.Nat.{ℕ}
 use mathlib.Core.Bool.{not, _||_}
 use mathlib.Core.List.{List}
+use mathlib.Core.Option.{none, some}
 use lib.Dec.{eqb, ltb}
 use lib.Count.{ones}
 use lib.ListN.{length}
-use Rattle.laws.specs.Refusals.{refuse}
+use Rattle.laws.specs.Refusals.{refuse, Said}
 use Rattle.tune.specs.Numbers.{littleAt}
 use Rattle.section.specs.Records.{recordSize, strikesAt}
 use Rattle.sheet.specs.declared.answer.Answer.{Answer}
@@ -15,10 +16,10 @@ use Rattle.sheet.specs.declared.answer.Answer.the-variants.{Done, Refuse
 unfoldable pub recordRule : List ℕ → ℕ → ℕ → ℕ
 recordRule r room least = refuse 13 (not (eqb (length r) recordSize) || ltb room least)
 
--- 01's number of an answer: 0 where the call was done
-abbrev pub answerNumber : Answer → ℕ
-answerNumber (Done n) = 0
-answerNumber (Refused x) = x
+-- 01's number and value of each case: how many channels or bytes, or the rule
+abbrev pub answerSays : Answer → Said ℕ
+answerSays (Done n) = record { number = 0; values = some n }
+answerSays (Refused x) = record { number = x; values = none }
 
 -- a record's strike mask, and how many channels it strikes
 abbrev pub maskOf : List ℕ → ℕ

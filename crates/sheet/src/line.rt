@@ -5,9 +5,9 @@ ghost use mathlib.Core.List.{_∷_, _++_};
 ghost use lib.ListN.{length, take, drop, getD};
 ghost use Rattle.tune.specs.Numbers.{littleAt};
 ghost use Rattle.section.specs.Records.{startAt};
-ghost use Rattle.sheet.specs.Records.{strikeCount};
+ghost use Rattle.sheet.specs.Records.{answerSays, strikeCount};
 ghost use Rattle.sheet.specs.Digits.{digits, markAt};
-ghost use Rattle.sheet.specs.Lines.{decimal, spelled, lineFields, lineAnswer, lineOutput};
+ghost use Rattle.sheet.specs.Lines.{decimal, spelled, lineFields, lineSays, lineOutput};
 use crate::answer::Answer;
 use crate::answer::record_rule;
 use tune::numbers::u32_at;
@@ -136,7 +136,7 @@ fn fields_of(row: &[u8]) -> [u64; 9]
 
 // Line: a record's line in the first bytes of the output, and how many they are; or 13.
 pub fn line(row: &[u8], out: &mut [u8]) -> Answer
-    ensures answer { λ r. ⌜ r ≡ lineAnswer (now (row .entry)) (now (out .entry)) ⌝ }
+    ensures answer { λ r. ⌜ answerSays r ≡ lineSays (now (row .entry)) (now (out .entry)) ⌝ }
     ensures written { λ _. ⌜ now (out .exit) ≡ lineOutput (now (row .entry)) (now (out .entry)) ⌝ }
 {
     let rule = record_rule(row, out.len(), 64);

@@ -1,8 +1,7 @@
 -- `lomqashe::lomqashe_measure` meets its contract. Assumes nothing.
 use denote.Ref.{now}
-use mathlib.Core.Path.{sym, ap, _∙_}
+use mathlib.Core.Path.{_∙_}
 use borrow.Author.Needs.{needs}
-use Rattle.s3m.specs.Answers.{measuredNumber}
 use Rattle.lomqashe.proofs.Answered.{measure-wrong, measure-given}
 use Rattle.lomqashe.proofs.lomqashe_measure.Statement.{statement}
 use Rattle.lomqashe.proofs.lomqashe_measure.Tie as tie
@@ -31,13 +30,15 @@ same-length c = search needs
 returns-2 : tie.Need-returns-2
 returns-2 c =
     let s = c .before .before .before .before .before .before .before .before .before .before .before in
-    let g = measure-given (now (s .args .file)) (now (s .args .counts)) _ (c .before .before .before .before .before .before .before .before .if1 .left) (sym (c .before .before .before .before .before .c .given .1) ∙ c .before .before .before .before .before .before .before .measure .ensures .0) (ap measuredNumber (sym (c .before .before .before .before .before .c .given .1)) ∙ c .before .before .before .before .before .before .before .measure .ensures .1) in
+    let m = c .before .before .before .before .before .before .before .measure in
+    let g = measure-given (now (s .args .file)) (now (s .args .counts)) (c .before .before .before .before .before .c .given .1) (c .before .before .before .before .before .before .before .before .if1 .left) (m .ensures .0) (m .ensures .1) in
     (g .0, c .before .before .put-counts .ensures ∙ g .1)
 
 returns-3 : tie.Need-returns-3
 returns-3 c =
     let s = c .before .before .before .before .before .before .before .before in
-    let g = measure-given (now (s .args .file)) (now (s .args .counts)) _ (c .before .before .before .before .before .if1 .left) (sym (c .before .before .rule .given .1) ∙ c .before .before .before .before .measure .ensures .0) (ap measuredNumber (sym (c .before .before .rule .given .1)) ∙ c .before .before .before .before .measure .ensures .1) in
+    let m = c .before .before .before .before .measure in
+    let g = measure-given (now (s .args .file)) (now (s .args .counts)) (c .before .before .rule .given .1) (c .before .before .before .before .before .if1 .left) (m .ensures .0) (m .ensures .1) in
     (c .refused .ensures ∙ g .0, g .1)
 
 pub lomqashe-measure-spec : {M : Type 1} → statement M

@@ -1,8 +1,9 @@
 -- `lomqashe::lomqashe_read` meets its contract. Assumes nothing.
 use denote.Ref.{now}
-use Prim.Native.Nat.{ℕ}
 use mathlib.Core.Path.{refl, ap, _∙_}
 use borrow.Author.Needs.{needs}
+use Rattle.laws.specs.Refusals.{Said}
+use Rattle.tune.specs.declared.opening.Opening.{Opening}
 use Rattle.lomqashe.specs.Answers.{answerOf}
 use Rattle.lomqashe.proofs.Answered.{read-wrong, read-given, kept-orders, kept-samples, kept-cells, kept-opening, read-opening}
 use Rattle.lomqashe.proofs.lomqashe_read.Statement.{statement}
@@ -37,7 +38,7 @@ returns-2 c =
     let a = c .before .before .before .before .before .before .before .before .before .before .before .before .before .before .before .before .before .before .before .before .before .args in
     let e = read-given (now (a .file)) (now (a .orders)) (now (a .samples)) (now (a .cells)) (now (a .opening)) (c .before .before .before .before .before .before .before .before .before .before .before .before .before .before .before .if1 .left) in
     let g = c .before .before .before .before .before .before .before .before .before .before .before .read .ensures in
-    rw e (c .before .before .answer-read .ensures .0 ∙ ap (λ (r : ℕ). answerOf r 0) (g .1 .0), (g .1 .1 .0, (g .1 .1 .1 .0, (g .1 .1 .1 .1, c .before .before .answer-read .ensures .1 ∙ read-opening (now (a .file)) (a .rate) _ (now (a .opening)) (c .before .before .before .before .before .before .before .before .before .before .before .read .result) (g .0)))))
+    rw e (c .before .before .answer-read .ensures .0 ∙ ap (λ (s : Said Opening). answerOf (s .number) 0) (g .1 .0), (g .1 .1 .0, (g .1 .1 .1 .0, (g .1 .1 .1 .1, c .before .before .answer-read .ensures .1 ∙ read-opening (now (a .file)) (a .rate) _ (now (a .opening)) (c .before .before .before .before .before .before .before .before .before .before .before .read .result) (g .0)))))
 
 pub lomqashe-read-spec : {M : Type 1} → statement M
 lomqashe-read-spec =

@@ -2,15 +2,23 @@
 use mathlib.Core.Path.{sym, ap, _∙_}
 use native.Mathlib.Nat.{zero-add}
 use borrow.Author.Needs.{needs}
-use Rattle.lomqashe.specs.Answers.{recordAnswer}
+use Rattle.sheet.specs.Records.{answerSays}
+use Rattle.sheet.specs.declared.answer.Answer.{Answer}
+use Rattle.lomqashe.specs.Answers.{inOne}
 use Rattle.lomqashe.proofs.lomqashe_strikes.Statement.{statement}
 use Rattle.lomqashe.proofs.lomqashe_strikes.Tie as tie
 
 returns : tie.Need-returns
-returns c = record { answer = c .before .before .before .before .before .strikes .result; gives = c .before .before .before .before .before .strikes .ensures; number = sym (zero-add _) ∙ ap recordAnswer (sym (c .before .n .given .1)) }
+returns c =
+    let m = c .before .before .before .before .before .strikes in
+    let n = sym (zero-add _) ∙ ap (λ (a : Answer). inOne (answerSays a)) (sym (c .before .n .given .1)) in
+    (n ∙ ap inOne (m .ensures .0), record { answer = m .result; gives = m .ensures .1; number = n })
 
 returns-2 : tie.Need-returns-2
-returns-2 c = record { answer = c .before .before .before .before .before .before .strikes .result; gives = c .before .before .before .before .before .before .strikes .ensures; number = c .refused .ensures ∙ ap recordAnswer (sym (c .before .before .rule .given .1)) }
+returns-2 c =
+    let m = c .before .before .before .before .before .before .strikes in
+    let n = c .refused .ensures ∙ ap (λ (a : Answer). inOne (answerSays a)) (sym (c .before .before .rule .given .1)) in
+    (n ∙ ap inOne (m .ensures .0), record { answer = m .result; gives = m .ensures .1; number = n })
 
 pub lomqashe-strikes-spec : {M : Type 1} → statement M
 lomqashe-strikes-spec =

@@ -2,7 +2,6 @@
 use mathlib.Core.Path.{sym, ap, _∙_}
 use native.Mathlib.Omega.{arith}
 use borrow.Author.Needs.{needs}
-use Rattle.s3m.specs.Answers.{measuredNumber}
 use Rattle.s3m.proofs.Accepted.{found-listed}
 use Rattle.rowsheet.proofs.print_file.Statement.{statement}
 use Rattle.rowsheet.proofs.print_file.Tie as tie
@@ -44,7 +43,7 @@ print-counted-requires : tie.Need-print-counted-requires
 print-counted-requires c κs =
     let x = c .before .before .before .before .before .before .c .given in
     let m = c .before .before .before .before .before .before .before .before .measure .ensures in
-    let few = found-listed _ (x .0 .0) (sym (x .1) ∙ m .0) (ap measuredNumber (sym (x .1)) ∙ m .1) in (
+    let few = found-listed _ (x .0 .0) (x .1) (m .1) in (
       rw (sym (c .before .before .before .before .before .before .before .before .before .before .before .orders-room .ensures)) (few .orders-few),
       omega (arith, few .instruments-few, c .before .before .before .before .before .before .before .before .before .before .samples-room .ensures),
       omega (arith, c .before .before .before .if1 .left, c .before .before .before .before .before .before .before .before .before .cells-room .ensures),

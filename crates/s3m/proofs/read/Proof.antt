@@ -21,7 +21,7 @@ unfolding reading ordersAfter samplesAfter cellsAfter
 returns c =
     let e = c .before .before .read-rule .ensures in
     let t = ne-eqb _ 0 (c .before .if1 .taken) in
-    (rw (← e, t, c .blank-opening .ensures), (e, (rw (← e, t), (rw (← e, t), rw (← e, t)))))
+    (rw (← e, t, c .blank-opening .ensures), (rw (← e, t), (rw (← e, t), (rw (← e, t), rw (← e, t)))))
 
 counts-of-requires : tie.Need-counts-of-requires
 counts-of-requires c κs = accepted _ (read-measured _ _ _ _ (sym (c .before .read-rule .ensures) ∙ c .if1 .left)) .long
@@ -89,7 +89,7 @@ returns-2 c =
     let z = c .before .before .before .before .before .before .before .before .before .before .before .before .before .before .before .before .before .if1 .left in
     let t = eq-eqb _ 0 z in
     let n = c .before .before .before .before .before .before .before .before .before .before .before .before .before .before .before .before .counts-of .ensures .0 in
-    (rw (← e, t, c .opening-of .ensures), (sym z ∙ e, (c .before .before .before .before .before .before .before .before .before .before .before .read-orders .ensures ∙ rw (← e, t, n), (c .before .before .before .before .before .before .before .read-samples .ensures ∙ rw (← e, t, n), c .before .before .before .read-cells .ensures ∙ rw (← e, t, n)))))
+    (rw (← e, t, c .opening-of .ensures), (rw (← e, t, z, c .opening-of .ensures), (c .before .before .before .before .before .before .before .before .before .before .before .read-orders .ensures ∙ rw (← e, t, n), (c .before .before .before .before .before .before .before .read-samples .ensures ∙ rw (← e, t, n), c .before .before .before .read-cells .ensures ∙ rw (← e, t, n)))))
 
 pub read-spec : {M : Type 1} → statement M
 read-spec =

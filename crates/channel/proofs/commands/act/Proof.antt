@@ -6,24 +6,10 @@ use Rattle.channel.specs.Set.{withVolume, withPan}
 use Rattle.channel.proofs.commands.act.Statement.{statement}
 use Rattle.channel.proofs.commands.act.Tie as tie
 
-slide-volume-requires : tie.Need-slide-volume-requires
-slide-volume-requires c κs = search needs
-
-slide-finely-requires : tie.Need-slide-finely-requires
-slide-finely-requires c κs = search needs
-
-slide-finely-requires-2 : tie.Need-slide-finely-requires-2
-slide-finely-requires-2 c κs = search needs
-
-extended-requires : tie.Need-extended-requires
-extended-requires c κs = search needs
-
-set-pan-requires : tie.Need-set-pan-requires
-set-pan-requires c κs = search needs
-
 returns : tie.Need-returns
 unfolding commanded withVolume withPan
-returns c = simp (c .before .before .before .match .keys1, ← c .slide-volume .ensures)
+returns c =
+    simp (c .before .before .before .match .keys1, ← c .before .before .high-nibble .ensures .0, ← c .before .low-nibble .ensures .0, ← c .slide-volume .ensures)
 
 returns-2 : tie.Need-returns-2
 unfolding commanded withVolume withPan
@@ -35,7 +21,8 @@ returns-3 c = simp (c .before .match .keys3, ← c .slide-finely2 .ensures)
 
 returns-4 : tie.Need-returns-4
 unfolding commanded withVolume withPan
-returns-4 c = simp (c .before .before .before .match .keys4, ← c .extended .ensures)
+returns-4 c =
+    simp (c .before .before .before .match .keys4, ← c .before .before .high-nibble2 .ensures .0, ← c .before .low-nibble2 .ensures .0, ← c .extended .ensures)
 
 returns-5 : tie.Need-returns-5
 unfolding commanded withVolume withPan
@@ -46,4 +33,7 @@ unfolding commanded withVolume withPan
 returns-6 c = simp (ne-eqb _ _ (c .match .rest .0 .0 .0 .0 .1), ne-eqb _ _ (c .match .rest .0 .0 .0 .1), ne-eqb _ _ (c .match .rest .0 .0 .1), ne-eqb _ _ (c .match .rest .0 .1), ne-eqb _ _ (c .match .rest .1))
 
 pub act-spec : {M : Type 1} → statement M
-act-spec = tie.close (tie.spec slide-volume-requires slide-finely-requires slide-finely-requires-2 extended-requires set-pan-requires returns returns-2 returns-3 returns-4 returns-5 returns-6)
+act-spec =
+    tie.close
+    (tie.spec (λ c κs. search needs) (λ c κs. search needs) (λ c κs. search needs) (λ c κs. search needs) (λ c κs. search needs)
+    (λ c κs. search needs) (λ c κs. search needs) (λ c κs. search needs) (λ c κs. search needs) returns returns-2 returns-3 returns-4 returns-5 returns-6)
