@@ -8,11 +8,11 @@ use lib.ListN.{length, getD, take, drop}
 use lib.Seq.{take-at, drop-at, drop-drop, getD-drop}
 use Rattle.laws.specs.Masks.{bitOf}
 use Rattle.tune.specs.Numbers.{littleAt, bytesOf, flag}
-use Rattle.tune.proofs.Little.{four}
 use Rattle.row_path.specs.Leave.{lengthOf}
 use Rattle.row_path.specs.declared.machine.Entered.{Entered}
 use Rattle.channel.specs.declared.state.Channel.{Channel}
 use Rattle.section.specs.Records.{rowHead, channelBytes, channelsBytes, recordBytes}
+use Rattle.section.proofs.Fields.{mask-read}
 use Rattle.section.proofs.Sizes.{bytes-length, channel-length}
 use Rattle.noninterference.specs.Kept.{headIn, strikeIn, channelIn}
 
@@ -35,19 +35,6 @@ piece (c ∷ cs) (suc k) d h =
     ap (λ (n : ℕ). take 16 (drop n (channelBytes c ++ channelsBytes cs))) e
     ∙ ap (take 16) (sym (drop-drop (16 * k) 16 (channelBytes c ++ channelsBytes cs)) ∙ ap (drop (16 * k)) (drop-at (channelBytes c) (channelsBytes cs) 16 (channel-length c)))
     ∙ piece cs k d (omega arith)
-
--- four bytes read back
-four-back : (x : ℕ) (ys : List ℕ) → x < 2 ^ 32 → littleAt 4 (bytesOf 4 x ++ ys) 0 ≡ x
-unfolding bytesOf
-four-back x ys h = four (bytesOf 4 x ++ ys) 0 ∙ omega arith
-
-from-drop : (s : List ℕ) (n : ℕ) → littleAt 4 s n ≡ littleAt 4 (drop n s) 0
-from-drop s n =
-    let first : getD (drop n s) 0 0 ≡ getD s n 0 = at 0 ∙ ap (λ (k : ℕ). getD s k 0) (add-zero n) in
-    omega (arith, four s n, four (drop n s) 0, first, at 1, at 2, at 3)
-  where
-    at : (k : ℕ) → getD (drop n s) k 0 ≡ getD s (n + k) 0
-    at k = getD-drop n s k 0
 
 module _ (e : Entered) (g strikes : ℕ) (cs : List Channel) where
   abbrev whole : List ℕ
@@ -81,7 +68,7 @@ module _ (e : Entered) (g strikes : ℕ) (cs : List Channel) where
   -- bit k of the strike mask
   pub strike-is : (k : ℕ) → strikes < 2 ^ 32 → strikeIn k whole ≡ bitOf strikes k
   unfolding strikeIn
-  strike-is k h = ap (λ (m : ℕ). bitOf m k) (from-drop whole 16 ∙ ap (λ (l : List ℕ). littleAt 4 l 0) at-mask ∙ four-back strikes (long ++ channelsBytes cs) h)
+  strike-is k h = ap (λ (m : ℕ). bitOf m k) (mask-read e g strikes cs h)
 
   -- channel k
   pub channel-is : (k : ℕ) (d : Channel) → k < length cs → channelIn k whole ≡ channelBytes (getD cs k d)

@@ -9,7 +9,6 @@ use lib.ListN.{length, getD}
 use Rattle.laws.specs.Choice.{pick}
 use Rattle.laws.specs.Masks.{bitOf}
 use Rattle.laws.proofs.Picks.{choice}
-use Rattle.laws.proofs.MaskBits.{mask-below}
 use Rattle.tune.specs.Sizes.{patternCount}
 use Rattle.tune.specs.Cells.{rowCells}
 use Rattle.row_path.specs.Leave.{lengthOf}
@@ -27,7 +26,7 @@ use Rattle.section.specs.Tables.{Tables, Tune}
 use Rattle.tune.specs.Numbers.{bytesOf}
 use Rattle.section.specs.Records.{channelBytes}
 use Rattle.section.specs.Machines.{Voices, rowPlayed, recordOf, voicesAfter, recordsOf, voicesBehind}
-use Rattle.section.proofs.Sizes.{played-count}
+use Rattle.section.proofs.Sizes.{played-count, strikes-below}
 use Rattle.noninterference.specs.Revoiced.{Revoiced}
 use Rattle.noninterference.specs.Kept.{headIn, strikeIn, channelIn}
 use Rattle.noninterference.proofs.Cells.{own-cells, volume-cells}
@@ -54,15 +53,6 @@ record RowAlike (chosen : ℕ → Bool) (x y : Rowed) : Type 0 where
 pub pick-two : {X : Type 0} (P : X → X → Type 0) (b : Bool) {x y z w : X} → P x z → P y w → P (pick b x y) (pick b z w)
 pick-two P true f g = f
 pick-two P false f g = g
-
--- a strike mask of 32 channels has 32 bits
-strikes-below : (t : Tables) (w : Switches) (e : Entered) (v : Voices) → length (v .channels) ≡ 32 → rowPlayed t w e v .strikes < 2 ^ 32
-unfolding rowPlayed rowVisited rowEntered
-strikes-below t w e v h =
-    let row = rowCells (t .cells) (e .pattern) (e .path .place .row) in
-    choice (λ (r : Rowed). r .strikes < 2 ^ 32) (e .path .hold .held) (λ _. omega arith)
-    (λ _. subst (λ (n : ℕ). rowEntered row (e .path .«s_info») (t .samples) w (v .globalVolume) (v .channels) .strikes < 2 ^ n) h
-    (mask-below (λ i c. enteredAt row (e .path .«s_info») (t .samples) w (v .globalVolume) i c .struck) (v .channels)))
 
 module _ (chosen : ℕ → Bool) (A B : Tune) (whole : length (A .tables .cells) ≡ patternCount (A .tables .cells) * 10240) (R : Revoiced chosen A B) (w : Switches) where
   -- a chosen channel enters its cell alike

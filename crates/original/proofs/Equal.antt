@@ -15,13 +15,13 @@ use Rattle.section.specs.Typed.{Shaped, ByteTables}
 use Rattle.section.specs.declared.state.State.{State}
 use Rattle.section.specs.declared.state.Sectioned.{Sectioned}
 use Rattle.section.proofs.Answers.{refusal-is, given-answer}
+use Rattle.section.proofs.Ready.{rule-sound}
 use Rattle.original.specs.Player.{anyChannel, «enter_row», «next_row»}
 use Rattle.original.specs.Map.{songOf, stateMap, rowFrom, enteredMap}
 use Rattle.original.specs.Turns.{turns, recordRead, recordsRead}
 use Rattle.original.proofs.Entering.{entering-same}
 use Rattle.original.proofs.Leaving.{leaving-same}
 use Rattle.original.proofs.Reading.{record-read}
-use Rattle.original.proofs.Staying.{rule-sound}
 use Rattle.original.proofs.Walking.{turns-equal, reads-equal}
 
 -- Entering: on tables that rule 9 accepts and a state that rule 11 accepts, the Rust's `enter_row` gives the map of our entered row

@@ -4,18 +4,14 @@ use mathlib.Core.Path.{_≡_, refl, sym, ap, _∙_, subst}
 use mathlib.Core.Bool.{Bool, true, false, _||_, _&&_, not}
 use mathlib.Core.List.{List}
 use native.Mathlib.Omega.{arith}
-use borrow.Author.Tests.{eqb-false, ltb-true, ltb-false}
+use borrow.Author.Tests.{ltb-true, ltb-false}
 use lib.Dec.{eqb, ltb}
 use lib.ListN.{length, getD, set, length-set, List·getD-eq-default}
 use lib.Seq.{getD-set-same, getD-set-other}
-use Rattle.laws.specs.Entries.{every}
-use Rattle.laws.proofs.Picks.{choice, or-false, here-or}
-use Rattle.laws.proofs.Rules.{kept}
+use Rattle.laws.proofs.Picks.{choice, here-or}
 use Rattle.tune.specs.Cells.{rowCells, cellOf}
-use Rattle.tune.specs.Opening.{rateBroken}
 use Rattle.tune.proofs.Sized.{Sized}
 use Rattle.row_path.specs.Sound.{Sound, Bytes}
-use Rattle.row_path.specs.declared.machine.Path.{Path}
 use Rattle.row_path.specs.declared.machine.Entered.{Entered}
 use Rattle.row_path.proofs.Kept.{row-bytes, entered-kept, left-kept}
 use Rattle.row_path.proofs.Unmoved.{entered-size, left-size}
@@ -28,43 +24,10 @@ use Rattle.channel.proofs.Own.{channels-length, channel-at}
 use Rattle.section.specs.Tables.{Tables}
 use Rattle.section.specs.Machines.{rowPlayed, voicesAfter}
 use Rattle.section.specs.Walk.{voicesOf, stateWith}
-use Rattle.section.specs.Section.{pathBroken, channelBroken, stateRule}
 use Rattle.section.specs.Typed.{ShapedChannel, Shaped, ByteTables}
 use Rattle.section.specs.declared.state.State.{State}
 use Rattle.original.specs.Map.{rowFrom}
 use Rattle.original.proofs.Leaving.{behind}
-
--- rule 11 of a path whose order and speed are bytes
-path-sound : (p : Path) → pathBroken p ≡ false → p .place .order ≤ 255 → p .clock .speed ≤ 255 → Sound p
-unfolding pathBroken
-path-sound p h o f =
-    let a : Bool = ltb 63 (p .place .row) in
-    let b : Bool = ltb 63 (p .«pattern_loop» .«start_row») in
-    let c : Bool = eqb (p .clock .speed) 0 in
-    let d : Bool = ltb (p .clock .tempo) 32 in
-    let e : Bool = ltb (2 ^ 62) (p .clock .start) in
-    let six = or-false (a || b || c || d || e) (rateBroken (p .clock .rate)) h in
-    let five = or-false (a || b || c || d) e (six .0) in
-    let four = or-false (a || b || c) d (five .0) in
-    let three = or-false (a || b) c (four .0) in
-    let two = or-false a b (three .0) in
-    let rate = or-false (eqb (p .clock .rate) 0) (ltb 100000 (p .clock .rate)) (six .1) in
-    record {
-      order = o;
-      row = ltb-false 63 (p .place .row) (two .0);
-      start-row = ltb-false 63 (p .«pattern_loop» .«start_row») (two .1);
-      slow = let z = eqb-false (p .clock .speed) 0 (three .1) in omega arith;
-      fast = f;
-      tempo = ltb-false (p .clock .tempo) 32 (four .1);
-      moves = let z = eqb-false (p .clock .rate) 0 (rate .0) in omega arith;
-      rate = ltb-false 100000 (p .clock .rate) (rate .1);
-    }
-
--- a state that rule 11 accepts has a sound path
-pub rule-sound : (s : State) → stateRule s ≡ 0 → Shaped s → Sound (s .path)
-unfolding stateRule
-rule-sound s h shaped =
-    path-sound (s .path) (or-false (pathBroken (s .path)) (not (every (λ i c. not (channelBroken c)) 0 (s .channels))) (kept 10 _ h) .0) (shaped .order) (shaped .speed)
 
 -- a byte written into bytes
 set-bytes : (m : List ℕ) (i x : ℕ) → Bytes m → x < 256 → Bytes (set m i x)

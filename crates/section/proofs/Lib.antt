@@ -1,6 +1,7 @@
 pub mod Accepted
 pub mod Answers
 pub mod Counts
+pub mod Fields
 pub mod Nans
 pub mod Ready
 pub mod Rounds

@@ -3,7 +3,8 @@ use Prim.Native.Nat.{ℕ, _*_, _^_, _≤_}
 use mathlib.Core.Path.{_≡_, sym, subst}
 use mathlib.Core.Bool.{Bool, not, _||_, false, true}
 use mathlib.Core.List.{List}
-use borrow.Author.Tests.{ltb-false, not-false, not-true}
+use native.Mathlib.Omega.{arith}
+use borrow.Author.Tests.{eqb-false, ltb-false, not-false, not-true}
 use lib.Dec.{T, eqb, ltb}
 use lib.Ieee.{isNan}
 use lib.ListN.{length, getD}
@@ -14,7 +15,7 @@ use Rattle.laws.proofs.Tables.{at}
 use Rattle.tune.specs.Opening.{rateBroken}
 use Rattle.tune.specs.Sizes.{patternCount}
 use Rattle.tune.proofs.Sized.{sized}
-use Rattle.row_path.specs.Sound.{Bounded}
+use Rattle.row_path.specs.Sound.{Sound, Bounded}
 use Rattle.row_path.specs.declared.machine.Path.{Path}
 use Rattle.channel.specs.Numbers.{Numbers}
 use Rattle.channel.specs.declared.state.Channel.{Channel}
@@ -22,6 +23,7 @@ use Rattle.channel.proofs.Numbered.{Numbered}
 use Rattle.section.specs.declared.state.State.{State}
 use Rattle.section.specs.Tables.{Tables, tablesRule}
 use Rattle.section.specs.Records.{recordSize}
+use Rattle.section.specs.Typed.{Shaped}
 use Rattle.section.specs.Section.{pathBroken, channelBroken, stateRule, roomRule, sectionRule}
 
 -- tables of rule 9's sizes, a path and channels of rule 11, and room for n records
@@ -34,9 +36,9 @@ pub record Ready (t : Tables) (s : State) (n room : ℕ) : Type 0 where
   pub rows : n ≤ 65535
   pub fits : 536 * n ≤ room
 
-path-bounded : (p : Path) → pathBroken p ≡ false → Bounded p × (p .clock .start ≤ 2 ^ 62)
+path-parts : (p : Path) → pathBroken p ≡ false → Bounded p × (p .clock .start ≤ 2 ^ 62) × (1 ≤ p .clock .speed) × (1 ≤ p .clock .rate)
 unfolding pathBroken
-path-bounded p e =
+path-parts p e =
     let a = or-false (ltb 63 (p .place .row) || ltb 63 (p .«pattern_loop» .«start_row») || eqb (p .clock .speed) 0 || ltb (p .clock .tempo) 32 || ltb (2 ^ 62) (p .clock .start)) (rateBroken (p .clock .rate)) e in
     let b = or-false (ltb 63 (p .place .row) || ltb 63 (p .«pattern_loop» .«start_row») || eqb (p .clock .speed) 0 || ltb (p .clock .tempo) 32) (ltb (2 ^ 62) (p .clock .start)) (a .0) in
     let d = or-false (ltb 63 (p .place .row) || ltb 63 (p .«pattern_loop» .«start_row») || eqb (p .clock .speed) 0) (ltb (p .clock .tempo) 32) (b .0) in
@@ -50,7 +52,12 @@ path-bounded p e =
         rate = ltb-false 100000 (p .clock .rate) (r .1);
       },
       ltb-false (2 ^ 62) (p .clock .start) (b .1),
+      least (p .clock .speed) (eqb-false (p .clock .speed) 0 (f .1)),
+      least (p .clock .rate) (eqb-false (p .clock .rate) 0 (r .0)),
     )
+  where
+    least : (n : ℕ) → (n ≡ 0 → ⊥) → 1 ≤ n
+    least n h = omega arith
 
 number : (b : Bool) → b ≡ false → T (not b)
 number b e = subst (λ (x : Bool). T (not x)) (sym e) tt
@@ -70,6 +77,21 @@ state-parts s e =
     let b = or-false (pathBroken (s .path)) (not (every (λ i c. not (channelBroken c)) 0 (s .channels))) (kept 10 _ e) in
     (b .0, not-false (every (λ i c. not (channelBroken c)) 0 (s .channels)) (b .1))
 
+-- a state that rule 11 accepts has a sound path
+pub rule-sound : (s : State) → stateRule s ≡ 0 → Shaped s → Sound (s .path)
+rule-sound s e shaped =
+    let q = path-parts (s .path) (state-parts s e .0) in
+    record {
+      order = shaped .order;
+      row = q .0 .row;
+      start-row = q .0 .start-row;
+      slow = q .2;
+      fast = shaped .speed;
+      tempo = q .0 .tempo;
+      moves = q .3;
+      rate = q .0 .rate;
+    }
+
 room-parts : (n room : ℕ) → roomRule n room ≡ 0 → (n ≤ 65535) × (536 * n ≤ room)
 unfolding roomRule
 room-parts n room e =
@@ -88,7 +110,7 @@ ready t s n room e =
     let b = sound (stateRule s) (roomRule n room) (a .1) in
     let z = sized (t .orders) (t .cells) (t .samples) (a .0) in
     let p = state-parts s (b .0) in
-    let q = path-bounded (s .path) (p .0) in
+    let q = path-parts (s .path) (p .0) in
     let r = room-parts n room (b .1) in
     record {
       orders = z .orders-most;

@@ -1,14 +1,15 @@
 -- How many bytes a record has, and how many channels a state. Assumes nothing.
-use Prim.Native.Nat.{ℕ, zero, suc, _*_, _/_, _<_}
+use Prim.Native.Nat.{ℕ, zero, suc, _*_, _/_, _^_, _<_}
 use mathlib.Core.Path.{_≡_, refl, sym, ap, _∙_, subst}
 use mathlib.Core.List.{List, [], _∷_}
 use native.Mathlib.Omega.{arith}
 use lib.ListN.{length, getD, length-append}
 use Rattle.laws.proofs.Picks.{choice}
+use Rattle.laws.proofs.MaskBits.{mask-below}
 use Rattle.tune.specs.Cells.{rowCells}
 use Rattle.row_path.specs.Walk.{pathWalk}
 use Rattle.row_path.specs.declared.machine.Entered.{Entered}
-use Rattle.channel.specs.Channels.{rowEntered, rowVisited}
+use Rattle.channel.specs.Channels.{enteredAt, rowEntered, rowVisited}
 use Rattle.channel.specs.declared.channels.Rowed.{Rowed}
 use Rattle.channel.specs.declared.state.Channel.{Channel}
 use Rattle.channel.specs.declared.state.Switches.{Switches}
@@ -53,6 +54,15 @@ module _ (t : Tables) (w : Switches) where
   played-count e v =
       choice (λ (r : Rowed). length (r .channels) ≡ length (v .channels)) (e .path .hold .held) (λ _. refl)
       (λ _. own.channels-length (rowCells (t .cells) (e .pattern) (e .path .place .row)) (e .path .«s_info») (t .samples) w (v .globalVolume) (v .channels))
+
+  -- a strike mask of 32 channels has 32 bits
+  pub strikes-below : (e : Entered) (v : Voices) → length (v .channels) ≡ 32 → rowPlayed t w e v .strikes < 2 ^ 32
+  unfolding rowPlayed rowVisited rowEntered
+  strikes-below e v h =
+      let row = rowCells (t .cells) (e .pattern) (e .path .place .row) in
+      choice (λ (r : Rowed). r .strikes < 2 ^ 32) (e .path .hold .held) (λ _. omega arith)
+      (λ _. subst (λ (n : ℕ). rowEntered row (e .path .«s_info») (t .samples) w (v .globalVolume) (v .channels) .strikes < 2 ^ n) h
+      (mask-below (λ i c. enteredAt row (e .path .«s_info») (t .samples) w (v .globalVolume) i c .struck) (v .channels)))
 
   after-count : (e : Entered) (v : Voices) → length (voicesAfter t w e v .channels) ≡ length (v .channels)
   unfolding voicesAfter

@@ -2,3 +2,4 @@ pub mod Struck
 pub mod Given
 pub mod Digits
 pub mod Spelling
+pub mod Fields

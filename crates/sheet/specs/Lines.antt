@@ -1,11 +1,14 @@
 -- Line (01, 'From record to paper'). Assumes nothing.
 use Prim.Native.Nat.{ℕ, zero, suc, _+_, _/_, _%_}
 use mathlib.Core.List.{List, [], _∷_, _++_}
+use lib.Count.{ones}
 use lib.Dec.{ltb}
 use lib.ListN.{length, getD, drop}
 use Rattle.laws.specs.Choice.{pick}
 use Rattle.laws.specs.Refusals.{Said, said}
-use Rattle.tune.specs.Numbers.{littleAt}
+use Rattle.tune.specs.Numbers.{littleAt, flag}
+use Rattle.row_path.specs.Leave.{lengthOf}
+use Rattle.row_path.specs.declared.machine.Entered.{Entered}
 use Rattle.section.specs.Records.{startAt, lengthAt}
 use Rattle.sheet.specs.Records.{recordRule, strikeCount}
 
@@ -29,6 +32,12 @@ unfoldable pub lineFields : List ℕ → List ℕ
 lineFields r =
     getD r 0 0 ∷ getD r 1 0 ∷ getD r 2 0 ∷ getD r 3 0 ∷ getD r 4 0 ∷ getD r 5 0
     ∷ littleAt 8 r startAt ∷ littleAt 4 r lengthAt ∷ strikeCount r ∷ []
+
+-- the same numbers of a row and its strike mask
+abbrev pub rowFields : Entered → ℕ → List ℕ
+rowFields e mask =
+    e .path .place .order ∷ e .pattern ∷ e .path .place .row ∷ flag (e .path .hold .held) ∷ e .path .clock .speed ∷ e .path .clock .tempo
+    ∷ e .path .clock .start ∷ lengthOf (e .path .clock) ∷ ones mask ∷ []
 
 unfoldable pub lineOf : List ℕ → List ℕ
 lineOf r = spelled (lineFields r)
