@@ -44,7 +44,8 @@ use Rattle.section.specs.Typed.{ShapedChannel, ByteTables}
 use Rattle.section.specs.declared.state.State.{State}
 use Rattle.original.specs.State.{Song, PlayerState}
 use Rattle.original.specs.Fields.{«self_channels», «self_order_index», «self_pending_global_vol», «self_loop_count», «self_loop_start_row», «self_loop_pattern_order», «self_strikes»}
-use Rattle.original.specs.Player.{anyChannel, Pass, pass, noLocals, scopeLoop, conclude, written, playRow, «find_next_playable_order», enterAt, «enter_row»}
+use Rattle.original.specs.New.{«Channel::default»}
+use Rattle.original.specs.Player.{Pass, pass, noLocals, scopeLoop, conclude, written, playRow, «find_next_playable_order», enterAt, «enter_row»}
 use Rattle.original.specs.Map.{songOf, rustChannel, rustChannels, playerOf, stateMap, waiting, waitingIn, rowFrom, isSome, playedMap, enteredMap}
 use Rattle.original.proofs.Lists.{mask-none, mask-same}
 use Rattle.original.proofs.Scans.{scanOf}
@@ -86,7 +87,7 @@ held-or f false p q = q refl
 
 -- a row that is there: pattern v, at the path that has arrived
 module _ (t : Tables) (s : State) (sized : Sized (t .orders) (t .cells) (t .samples)) (bytes : ByteTables t)
-    (full : length (s .channels) ≡ 32) (shaped : (i : ℕ) → i < 32 → ShapedChannel (getD (s .channels) i anyChannel))
+    (full : length (s .channels) ≡ 32) (shaped : (i : ℕ) → i < 32 → ShapedChannel (getD (s .channels) i «Channel::default»))
     (v : ℕ) (p : Path) (infos : length (p .«s_info») ≡ 32) where
   abbrev w : Switches
   w = s .switches
@@ -140,17 +141,17 @@ module _ (t : Tables) (s : State) (sized : Sized (t .orders) (t .cells) (t .samp
   struck =
       struckAt m (t .samples) (sample-same t w (sized .samples-whole)) (sample-fits t w (bytes .samples)) g row row-is cells (cell-same t w v (p .place .row)) (p .«s_info») infos cs full shaped
 
-  one-same : (j : ℕ) → j < 32 → getD (after .channels) j anyChannel ≡ getD (rustChannels (channelsEntered row ys (t .samples) w g cs) ys) j anyChannel
+  one-same : (j : ℕ) → j < 32 → getD (after .channels) j «Channel::default» ≡ getD (rustChannels (channelsEntered row ys (t .samples) w g cs) ys) j «Channel::default»
   unfolding channelAt songOf
   one-same j h =
       o .passed-by j h h
-      ∙ ap (λ (x : ℕ). rustChannel (channelEntered (getD cs j anyChannel) (cellOf row j) x (t .samples) w g .channel) x) (sym (o .heard-info j h h))
-      ∙ ap (λ (c : Channel). rustChannel c (getD ys j 0)) (sym (channel-at row ys (t .samples) w g cs j anyChannel (omega (arith, full))))
+      ∙ ap (λ (x : ℕ). rustChannel (channelEntered (getD cs j «Channel::default») (cellOf row j) x (t .samples) w g .channel) x) (sym (o .heard-info j h h))
+      ∙ ap (λ (c : Channel). rustChannel c (getD ys j 0)) (sym (channel-at row ys (t .samples) w g cs j «Channel::default» (omega (arith, full))))
       ∙ sym (rust-at (channelsEntered row ys (t .samples) w g cs) ys j (let z = channels-length row ys (t .samples) w g cs in omega (arith, full)))
 
   channels-same : after .channels ≡ rustChannels (channelsEntered row ys (t .samples) w g cs) ys
   channels-same =
-      ext-getD anyChannel (after .channels) (rustChannels (channelsEntered row ys (t .samples) w g cs) ys)
+      ext-getD «Channel::default» (after .channels) (rustChannels (channelsEntered row ys (t .samples) w g cs) ys)
       (o .long ∙ sym (rust-length _ ys ∙ channels-length row ys (t .samples) w g cs ∙ full))
       (λ j h. one-same j (let z = o .long in omega arith))
 
@@ -158,11 +159,11 @@ module _ (t : Tables) (s : State) (sized : Sized (t .orders) (t .cells) (t .samp
   unfolding channelAt songOf
   strikes-same =
       (let n = mask-none struck cs 32 full in let a = o .mask in omega arith)
-      ∙ mask-same struck (λ i c. channelAt row ys (t .samples) w g i c .struck) 0 cs anyChannel at
+      ∙ mask-same struck (λ i c. channelAt row ys (t .samples) w g i c .struck) 0 cs «Channel::default» at
     where
-      at : (j : ℕ) → j < length cs → struck (0 + j) (getD cs j anyChannel) ≡ channelAt row ys (t .samples) w g (0 + j) (getD cs j anyChannel) .struck
+      at : (j : ℕ) → j < length cs → struck (0 + j) (getD cs j «Channel::default») ≡ channelAt row ys (t .samples) w g (0 + j) (getD cs j «Channel::default») .struck
       at j h =
-          ap (λ (x : ℕ). channelEntered (getD cs j anyChannel) (cellOf row (0 + j)) x (t .samples) w g .struck)
+          ap (λ (x : ℕ). channelEntered (getD cs j «Channel::default») (cellOf row (0 + j)) x (t .samples) w g .struck)
           (sym (o .heard-info (0 + j) (omega (arith, full)) (omega (arith, full))))
 
   -- the player after a row with a scan, where the S infos are the scan's
@@ -219,7 +220,7 @@ unfolding arrived
 arrived-infos p at = refl
 
 module _ (t : Tables) (s : State) (sized : Sized (t .orders) (t .cells) (t .samples)) (bytes : ByteTables t)
-    (full : length (s .channels) ≡ 32) (shaped : (i : ℕ) → i < 32 → ShapedChannel (getD (s .channels) i anyChannel))
+    (full : length (s .channels) ≡ 32) (shaped : (i : ℕ) → i < 32 → ShapedChannel (getD (s .channels) i «Channel::default»))
     (infos : length (s .path .«s_info») ≡ 32) (rows : s .path .place .row ≤ 63) where
   abbrev q : Path
   q = s .path

@@ -16,7 +16,8 @@ use Rattle.section.specs.declared.state.State.{State}
 use Rattle.section.specs.declared.state.Sectioned.{Sectioned}
 use Rattle.section.proofs.Answers.{refusal-is, given-answer}
 use Rattle.section.proofs.Ready.{rule-sound}
-use Rattle.original.specs.Player.{anyChannel, «enter_row», «next_row»}
+use Rattle.original.specs.New.{«Channel::default»}
+use Rattle.original.specs.Player.{«enter_row», «next_row»}
 use Rattle.original.specs.Map.{songOf, stateMap, rowFrom, enteredMap}
 use Rattle.original.specs.Turns.{turns, recordRead, recordsRead}
 use Rattle.original.proofs.Entering.{entering-same}
@@ -28,7 +29,7 @@ use Rattle.original.proofs.Walking.{turns-equal, reads-equal}
 pub enter-row-equal : (t : Tables) (s : State) → tablesRule t ≡ 0 → stateRule s ≡ 0 → ByteTables t → Shaped s
     → «enter_row» (songOf t (s .switches)) (stateMap s) ≡ enteredMap t s (rowFrom t s)
 enter-row-equal t s nine eleven bytes shaped =
-    entering-same t s (sized (t .orders) (t .cells) (t .samples) nine) bytes (shaped .channels) (λ i. shaped .channel i anyChannel) (shaped .infos) (rule-sound s eleven shaped .row)
+    entering-same t s (sized (t .orders) (t .cells) (t .samples) nine) bytes (shaped .channels) (λ i. shaped .channel i «Channel::default») (shaped .infos) (rule-sound s eleven shaped .row)
 
 -- Leaving: on the map of a row that did not end the tune, the Rust's `next_row` gives the map of our state behind the row
 pub next-row-equal : (t : Tables) (s : State) → rowFrom t s .path .ended ≡ false

@@ -1,12 +1,12 @@
--- The premises of the theorems hold where they are used: a fresh state has the shape of its type, and a small tune with its fresh
--- state is accepted. Assumes nothing.
+-- A fresh state is what the Rust's `PlayerState::new` makes of the opening values, and the premises of the theorems hold where they
+-- are used: it has the shape of its type, and a small tune with its fresh state is accepted. Assumes nothing.
 use Prim.Native.Nat.{ℕ, zero, suc, _≤_, _<_}
 use mathlib.Core.Path.{_≡_, refl, ap, _∙_}
-use mathlib.Core.Bool.{false}
 use mathlib.Core.List.{List, [], _∷_, map}
 use native.Mathlib.Omega.{arith}
 use lib.Ieee.{isNan}
 use lib.ListN.{length, getD, replicate}
+use Rattle.laws.specs.Entries.{mapFrom}
 use Rattle.tune.specs.Sizes.{rule9}
 use Rattle.tune.specs.declared.opening.ChannelOpening.{ChannelOpening}
 use Rattle.tune.specs.declared.opening.Opening.{Opening}
@@ -19,6 +19,9 @@ use Rattle.section.specs.Open.{freshState}
 use Rattle.section.specs.Section.{pathBroken, channelBroken, stateRule}
 use Rattle.section.specs.Typed.{ShapedChannel, Shaped, ByteTables}
 use Rattle.section.specs.Ordinary.{ordinary}
+use Rattle.original.specs.Fields.{«self_channels»}
+use Rattle.original.specs.New.{newChannel, «PlayerState::new»}
+use Rattle.original.specs.Map.{rustChannel, rustChannels, playerOf, stateMap}
 
 zero-bytes : (n : ℕ) → Bytes (replicate n 0)
 zero-bytes zero k = omega arith
@@ -28,6 +31,22 @@ zero-bytes (suc n) (suc k) = zero-bytes n k
 length-zeros : (n : ℕ) → length {A = ℕ} (replicate n 0) ≡ n
 length-zeros zero = refl
 length-zeros (suc n) = ap suc (length-zeros n)
+
+zero-at : (n k : ℕ) → getD {A = ℕ} (replicate n 0) k 0 ≡ 0
+zero-at zero k = refl
+zero-at (suc n) zero = refl
+zero-at (suc n) (suc k) = zero-at n k
+
+-- Open's channels, by the map, are the Rust's `Default` with the opening values set
+pub opened-equal : (os : List ChannelOpening) (i : ℕ) → mapFrom (λ j c. rustChannel c (getD (replicate 32 0) j 0)) i (map openedChannel os) ≡ map newChannel os
+unfolding mapFrom openedChannel newChannel
+opened-equal [] i = refl
+opened-equal (o ∷ os) i = λ k. rustChannel (openedChannel o) (zero-at 32 i k) ∷ opened-equal os (suc i) k
+
+-- a fresh state, by the map, is the Rust's new player
+pub fresh-equal : (o : Opening) → stateMap (freshState o) ≡ «PlayerState::new» o
+unfolding freshState firstPath playerOf rustChannels «PlayerState::new»
+fresh-equal o = ap («self_channels» («PlayerState::new» o)) (opened-equal (o .channels) 0)
 
 opened-channel : (o : ChannelOpening) → ShapedChannel (openedChannel o)
 unfolding openedChannel

@@ -23,7 +23,8 @@ use Rattle.channel.specs.Channels.{waits}
 use Rattle.channel.specs.Row.{channelEntered}
 use Rattle.channel.specs.declared.state.Channel.{Channel}
 use Rattle.original.specs.State.{Song, Locals}
-use Rattle.original.specs.Player.{anySample, anyChannel, anyCell, Tick, Pass, playChannel, channelTick, storeTurn, turnAt, pass, noLocals}
+use Rattle.original.specs.New.{«Cell::EMPTY», «Channel::default»}
+use Rattle.original.specs.Player.{anySample, Tick, Pass, playChannel, channelTick, storeTurn, turnAt, pass, noLocals}
 use Rattle.original.specs.Map.{rustChannel, rustChannels, waiting}
 use Rattle.laws.proofs.Picks.{here-or}
 use Rattle.original.proofs.Lists.{mask-drop}
@@ -41,23 +42,23 @@ held-pass m g cells zero l = refl
 held-pass m g cells (suc n) l = held-pass m g cells n l
 
 -- channel j of those that the Rust has
-pub rust-at : (cs : List Channel) (infos : List ℕ) (j : ℕ) → j < length cs → getD (rustChannels cs infos) j anyChannel ≡ rustChannel (getD cs j anyChannel) (getD infos j 0)
+pub rust-at : (cs : List Channel) (infos : List ℕ) (j : ℕ) → j < length cs → getD (rustChannels cs infos) j «Channel::default» ≡ rustChannel (getD cs j «Channel::default») (getD infos j 0)
 unfolding rustChannels
-rust-at cs infos j h = map-at (λ i c. rustChannel c (getD infos i 0)) cs j anyChannel h
+rust-at cs infos j h = map-at (λ i c. rustChannel c (getD infos i 0)) cs j «Channel::default» h
 
 pub rust-length : (cs : List Channel) (infos : List ℕ) → length (rustChannels cs infos) ≡ length cs
 unfolding rustChannels
 rust-length cs infos = map-length (λ i c. rustChannel c (getD infos i 0)) 0 cs
 
 module _ (m : Song) (samples : List ℕ) (named : (n : ℕ) → lookup m n ≡ sampleOf samples n) (fits : (k : ℕ) → Fits (getD (m .samples) k anySample))
-    (g : ℕ) (row : List ℕ) (bytes : Bytes row) (cells : List Cell) (cell-at : (n : ℕ) → n < 32 → getD cells n anyCell ≡ cellOf row n)
+    (g : ℕ) (row : List ℕ) (bytes : Bytes row) (cells : List Cell) (cell-at : (n : ℕ) → n < 32 → getD cells n «Cell::EMPTY» ≡ cellOf row n)
     (before : List ℕ) (infos : length before ≡ 32) (cs : List Channel) (channels : length cs ≡ 32)
-    (shaped : (i : ℕ) → i < 32 → ShapedChannel (getD cs i anyChannel)) where
+    (shaped : (i : ℕ) → i < 32 → ShapedChannel (getD cs i «Channel::default»)) where
   abbrev start : Pass
   start = record { channels = rustChannels cs before; a = noLocals None; strikes = 0 }
 
   abbrev channel : ℕ → Channel
-  channel j = getD cs j anyChannel
+  channel j = getD cs j «Channel::default»
 
   -- the S info of channel j after its turn
   abbrev pub next : ℕ → ℕ
@@ -77,8 +78,8 @@ module _ (m : Song) (samples : List ℕ) (named : (n : ℕ) → lookup m n ≡ s
     pub wide : length infos-now ≡ 32
     pub heard-info : (j : ℕ) → j < n → j < 32 → getD infos-now j 0 ≡ next j
     pub unheard-info : (j : ℕ) → n ≤ j → j < 32 → getD infos-now j 0 ≡ getD before j 0
-    pub passed-by : (j : ℕ) → j < n → j < 32 → getD (l .channels) j anyChannel ≡ rustChannel (done j) (next j)
-    pub ahead : (j : ℕ) → n ≤ j → j < 32 → getD (l .channels) j anyChannel ≡ rustChannel (channel j) (getD before j 0)
+    pub passed-by : (j : ℕ) → j < n → j < 32 → getD (l .channels) j «Channel::default» ≡ rustChannel (done j) (next j)
+    pub ahead : (j : ℕ) → n ≤ j → j < 32 → getD (l .channels) j «Channel::default» ≡ rustChannel (channel j) (getD before j 0)
     pub scan : scanned row n (firstScan before) ≡ scanOf infos-now (l .a)
     pub volume : l .a .«pending_global_vol» ≡ waiting row n
     pub mask : l .strikes + maskFrom struckAt n (drop n cs) ≡ maskFrom struckAt 0 cs
@@ -111,7 +112,7 @@ module _ (m : Song) (samples : List ℕ) (named : (n : ℕ) → lookup m n ≡ s
     i = cellOf row n .info
 
     abbrev tick : Tick
-    tick = channelTick m g (cellOf row n) (record { ch = getD (l .channels) n anyChannel; a = l .a })
+    tick = channelTick m g (cellOf row n) (record { ch = getD (l .channels) n «Channel::default»; a = l .a })
 
     tick-ch : tick .ch ≡ rustChannel (done n) (next n)
     tick-ch =
@@ -138,14 +139,14 @@ module _ (m : Song) (samples : List ℕ) (named : (n : ℕ) → lookup m n ≡ s
         ∙ waits-same k i (next n) (l .a)
         ∙ ap (λ (v : ByteOption). pick (waits k i) (Some i) v) (o .volume)
 
-    new-here : (j : ℕ) → j ≡ n → getD (set (l .channels) n (tick .ch)) j anyChannel ≡ rustChannel (done j) (next j)
-    new-here j e = rw e (getD-set-same (l .channels) n (tick .ch) anyChannel (omega (arith, o .long)) ∙ tick-ch)
+    new-here : (j : ℕ) → j ≡ n → getD (set (l .channels) n (tick .ch)) j «Channel::default» ≡ rustChannel (done j) (next j)
+    new-here j e = rw e (getD-set-same (l .channels) n (tick .ch) «Channel::default» (omega (arith, o .long)) ∙ tick-ch)
 
     info-here : (j : ℕ) → j ≡ n → getD (set (o .infos-now) n (next n)) j 0 ≡ next j
     info-here j e = rw e (getD-set-same (o .infos-now) n (next n) 0 (omega (arith, o .wide)))
 
     abbrev struck : Bool
-    struck = playChannel m g (cellOf row n) (getD (l .channels) n anyChannel) .struck
+    struck = playChannel m g (cellOf row n) (getD (l .channels) n «Channel::default») .struck
 
     struck-is : struck ≡ struckAt n (channel n)
     struck-is =
@@ -155,7 +156,7 @@ module _ (m : Song) (samples : List ℕ) (named : (n : ℕ) → lookup m n ≡ s
     mask-next : l .strikes + bitAt struck n + maskFrom struckAt (suc n) (drop (suc n) cs) ≡ maskFrom struckAt 0 cs
     mask-next =
         ap (λ (b : Bool). l .strikes + bitAt b n + maskFrom struckAt (suc n) (drop (suc n) cs)) struck-is
-        ∙ (let d = mask-drop struckAt cs n anyChannel (omega (arith, channels)) in let k = o .mask in omega arith)
+        ∙ (let d = mask-drop struckAt cs n «Channel::default» (omega (arith, channels)) in let k = o .mask in omega arith)
 
     holds-next : Holds (suc n) (storeTurn n struck tick l)
     unfolding storeTurn
@@ -166,8 +167,8 @@ module _ (m : Song) (samples : List ℕ) (named : (n : ℕ) → lookup m n ≡ s
           wide = length-set (o .infos-now) n (next n) ∙ o .wide;
           heard-info = λ j b q. here-or j n (info-here j) (λ z. getD-set-other (o .infos-now) n j (next n) 0 z ∙ o .heard-info j (omega arith) q);
           unheard-info = λ j b q. getD-set-other (o .infos-now) n j (next n) 0 (λ e. omega arith) ∙ o .unheard-info j (omega arith) q;
-          passed-by = λ j b q. here-or j n (new-here j) (λ z. getD-set-other (l .channels) n j (tick .ch) anyChannel z ∙ o .passed-by j (omega arith) q);
-          ahead = λ j b q. getD-set-other (l .channels) n j (tick .ch) anyChannel (λ e. omega arith) ∙ o .ahead j (omega arith) q;
+          passed-by = λ j b q. here-or j n (new-here j) (λ z. getD-set-other (l .channels) n j (tick .ch) «Channel::default» z ∙ o .passed-by j (omega arith) q);
+          ahead = λ j b q. getD-set-other (l .channels) n j (tick .ch) «Channel::default» (λ e. omega arith) ∙ o .ahead j (omega arith) q;
           scan = scan-next;
           volume = volume-next;
           mask = mask-next;
@@ -179,6 +180,6 @@ module _ (m : Song) (samples : List ℕ) (named : (n : ℕ) → lookup m n ≡ s
   holds zero h = holds-first
   holds (suc n) h =
       let l : Pass = pass m g false cells n start in
-      subst (λ (c : Cell). Holds (suc n) (storeTurn n (playChannel m g c (getD (l .channels) n anyChannel) .struck) (channelTick m g c (record { ch = getD (l .channels) n anyChannel; a = l .a })) l))
+      subst (λ (c : Cell). Holds (suc n) (storeTurn n (playChannel m g c (getD (l .channels) n «Channel::default») .struck) (channelTick m g c (record { ch = getD (l .channels) n «Channel::default»; a = l .a })) l))
       (sym (cell-at n (omega arith)))
       (holds-next n (omega arith) l (holds n (omega arith)))

@@ -6,18 +6,29 @@ use native.Mathlib.Omega.{arith}
 use lib.Ieee.{Float, lt, div, ofInt, round}
 use Rattle.laws.specs.Choice.{pick}
 use Rattle.laws.proofs.Picks.{push}
-use Rattle.pitch.specs.Periods.{periodOf, noteNumber}
+use Rattle.pitch.specs.Periods.{periods, periodOf, noteNumber}
+use Rattle.pitch.specs.Finetune.{finetunes}
 use Rattle.pitch.specs.Frequency.{periodAt, frequencyOf, noteFrequency}
 use Rattle.pitch.specs.Limits.{lowest, highest, limited}
 use Rattle.channel.specs.Set.{withPitch}
 use Rattle.channel.specs.declared.state.Channel.{Channel}
 use Rattle.original.specs.Fields.{«ch_frequency», «ch_target_frequency»}
-use Rattle.original.specs.Helpers.{zeroFloat, «note_index_to_frequency», «note_to_frequency», lo, hi, clampFloat, clampFrequency, clampTarget, «clamp_amiga»}
+use Rattle.original.specs.Constants.{zeroFloat, «S2X_FINETUNE_TABLE», «PERIOD_TABLE»}
+use Rattle.original.specs.Helpers.{«note_index_to_frequency», «note_to_frequency», lo, hi, clampFloat, clampFrequency, clampTarget, «clamp_amiga»}
+
+-- the Rust's own tables are the port's
+pub period-table-equal : «PERIOD_TABLE» ≡ periods
+unfolding «PERIOD_TABLE»
+period-table-equal = refl
+
+pub finetune-table-equal : «S2X_FINETUNE_TABLE» ≡ finetunes
+unfolding «S2X_FINETUNE_TABLE»
+finetune-table-equal = refl
 
 -- a note's frequency
 pub frequency-equal : (note c5 : ℕ) → «note_to_frequency» note c5 ≡ noteFrequency note c5
 unfolding «note_to_frequency» «note_index_to_frequency» noteFrequency frequencyOf periodAt periodOf noteNumber
-frequency-equal note c5 = refl
+frequency-equal note c5 = rw period-table-equal
 
 once : (c5 : ℕ) → max (max c5 1) 1 ≡ max c5 1
 once c5 = omega arith

@@ -24,7 +24,8 @@ use Rattle.channel.specs.Play.{unstruck, strikes, loadedFrom, loaded, cut, aime
 use Rattle.channel.specs.Row.{putOff, withInfo, delivered}
 use Rattle.original.specs.State.{Song}
 use Rattle.original.specs.Fields.{«ch_instrument», «ch_opl_voice», «ch_sample_pos», «ch_vibrato_pos», «ch_tremolo_pos», «ch_last_note»}
-use Rattle.original.specs.Helpers.{zeroFloat, «clamp_pcm_volume», «resolve_sample_offset»}
+use Rattle.original.specs.Constants.{zeroFloat}
+use Rattle.original.specs.Helpers.{«clamp_pcm_volume», «resolve_sample_offset»}
 use Rattle.original.specs.Player.{anySample, sampleGet, loadVolume, storeVolume, loadDefault, instrumentColumn, unstarted, noteCut, porta, slideTo, setCursor, wake, resetVibrato, resetTremolo, keyOn, trigger, startNote, inRange, current, pitchOf, slideBack, noteColumn, volumeColumn, volumeAfterNote, playColumns, «is_note_delay», «is_s00_repeat_sdx», stash, deliver}
 use Rattle.original.proofs.Arms.{opposite, where-true}
 use Rattle.original.proofs.Pitches.{frequency-least, amiga-equal}

@@ -2,6 +2,7 @@
 use Prim.Native.Nat.{ℕ, zero, suc, _+_, _*_, _/_, _%_, _≤_, _<_}
 use mathlib.Core.Path.{_≡_, refl, sym, ap, _∙_}
 use mathlib.Core.Bool.{Bool, true, false, _&&_, _||_, not}
+use mathlib.Core.List.{List}
 use native.Mathlib.Omega.{arith}
 use borrow.Author.Tests.{eqb-true, eqb-false, ltb-true, ltb-false, leb-true, leb-false, ne-eqb, lt-ltb, le-ltb, le-leb, lt-leb}
 use lib.Dec.{eqb, ltb, leb}
@@ -9,17 +10,19 @@ use lib.ListN.{getD}
 use lib.Ieee.{Float}
 use Rattle.laws.specs.Choice.{pick}
 use Rattle.laws.proofs.Picks.{push, either}
-use Rattle.pitch.specs.Finetune.{finetunes, finetuneOf}
+use Rattle.pitch.specs.Finetune.{finetuneOf}
+use Rattle.pitch.specs.Frequency.{noteFrequency}
 use Rattle.pitch.specs.Limits.{limited}
 use Rattle.pitch.specs.Slides.{factorOf, factorNumber, slid}
 use Rattle.channel.specs.declared.state.Channel.{Channel}
 use Rattle.channel.specs.Levels.{fastSlid, volumeSlid, stereoPan}
 use Rattle.channel.specs.Commands.{finetuned, waveformOf, keepsPosition}
 use Rattle.channel.specs.Set.{withPitch, withVolume, withPan, withVibrato, withTremolo}
+use Rattle.original.specs.Constants.{«S2X_FINETUNE_TABLE»}
 use Rattle.original.specs.Fields.{«ch_frequency», «ch_target_frequency», «ch_volume», «ch_pan», «ch_vibrato_waveform», «ch_keep_vibrato_pos_on_new_note», «ch_tremolo_waveform», «ch_keep_tremolo_pos_on_new_note»}
 use Rattle.original.specs.Helpers.{«clamp_pcm_volume», «from_nibble», «clamp_amiga», finePower, «apply_dxy_tick0_fast_slide»}
 use Rattle.original.specs.Player.{volumeSlide, fineSlide, finetune, setVibrato, setTremolo, oldStereo}
-use Rattle.original.proofs.Pitches.{frequency-equal, amiga-equal}
+use Rattle.original.proofs.Pitches.{finetune-table-equal, frequency-equal, amiga-equal}
 use Rattle.original.proofs.Arms.{opposite}
 
 fast-same : (c : Channel) (x y : ℕ) → «apply_dxy_tick0_fast_slide» c x y ≡ withVolume c (fastSlid (c .volume) x y)
@@ -61,7 +64,8 @@ fine-slide-same c up on info h =
 pub finetune-same : (c : Channel) (p : ℕ) (on : Bool) → finetune on p c ≡ finetuned c p on
 unfolding finetune finetuned withPitch finetuneOf
 finetune-same c p on =
-    ap (λ (f : Float). pick (not (eqb (c .«last_note») 0)) («clamp_amiga» («ch_target_frequency» («ch_frequency» c f) f) on) c) (frequency-equal (c .«last_note») (getD finetunes p 0))
+    ap (λ (f : Float). pick (not (eqb (c .«last_note») 0)) («clamp_amiga» («ch_target_frequency» («ch_frequency» c f) f) on) c)
+    (frequency-equal (c .«last_note») (getD «S2X_FINETUNE_TABLE» p 0) ∙ ap (λ (table : List ℕ). noteFrequency (c .«last_note») (getD table p 0)) finetune-table-equal)
     ∙ opposite (eqb (c .«last_note») 0) _ c
     ∙ ap (λ (d : Channel). pick (eqb (c .«last_note») 0) c d) (amiga-equal _ on)
 

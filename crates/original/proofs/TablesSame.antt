@@ -28,7 +28,8 @@ use Rattle.section.specs.Tables.{Tables}
 use Rattle.original.specs.State.{Song, PlayerState}
 use Rattle.original.specs.Fields.{«self_ended», «self_pending_global_vol»}
 use Rattle.original.specs.Helpers.{oneMore}
-use Rattle.original.specs.Player.{anySample, anyCell, orderFrom, «find_next_playable_order», scopeLoop, playRow, rowOf, enterAt}
+use Rattle.original.specs.New.{«Cell::EMPTY»}
+use Rattle.original.specs.Player.{anySample, orderFrom, «find_next_playable_order», scopeLoop, playRow, rowOf, enterAt}
 use Rattle.original.specs.Map.{songOf}
 use Rattle.laws.proofs.Pieces.{length-tabulate, getD-tabulate}
 use Rattle.original.proofs.Play.{lookup, Fits}
@@ -91,8 +92,8 @@ module _ (t : Tables) (w : Switches) where
   pub cells-length : (v r : ℕ) → length (cellsOf v r) ≡ 32
   cells-length v r = length-tabulate 32 _
 
-  pub cell-same : (v r n : ℕ) → n < 32 → getD (cellsOf v r) n anyCell ≡ cellOf (rowCells (t .cells) v r) n
-  cell-same v r n h = getD-tabulate 32 (λ i. cellAt (t .cells) v r i) n anyCell h ∙ sym (row-cell (t .cells) v r n h)
+  pub cell-same : (v r n : ℕ) → n < 32 → getD (cellsOf v r) n «Cell::EMPTY» ≡ cellOf (rowCells (t .cells) v r) n
+  cell-same v r n h = getD-tabulate 32 (λ i. cellAt (t .cells) v r i) n «Cell::EMPTY» h ∙ sym (row-cell (t .cells) v r n h)
 
   abbrev bodies : List Sample
   bodies = tabulate (sampleCount (t .samples)) (λ k. sampleAt (t .samples) (k * 20))

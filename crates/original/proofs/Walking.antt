@@ -22,7 +22,8 @@ use Rattle.section.specs.Walk.{voicesOf, stateWith, stepBy, step, onto, goOn, w
 use Rattle.section.specs.Typed.{Shaped, ByteTables}
 use Rattle.section.specs.declared.state.State.{State}
 use Rattle.original.specs.State.{Song, PlayerState}
-use Rattle.original.specs.Player.{anyChannel, «next_row»}
+use Rattle.original.specs.New.{«Channel::default»}
+use Rattle.original.specs.Player.{«next_row»}
 use Rattle.original.specs.Map.{songOf, playerOf, stateMap, waitingIn, rowFrom, isSome, patternThere, playedMap, enteredMap}
 use Rattle.original.specs.Turns.{onFrom, turns, readFrom, recordsRead}
 use Rattle.original.proofs.Arms.{first, second}
@@ -79,7 +80,7 @@ module _ (t : Tables) (rule : Sized (t .orders) (t .cells) (t .samples)) (bytes 
   unfolding turns playerOf
   going-equal n s shaped sound e more =
       second (s .path .ended) _ e
-      (ap (onFrom (turns (songOf t (s .switches)) n) (songOf t (s .switches))) (entering-same t s rule bytes (shaped .channels) (λ i. shaped .channel i anyChannel) (shaped .infos) (sound .row))
+      (ap (onFrom (turns (songOf t (s .switches)) n) (songOf t (s .switches))) (entering-same t s rule bytes (shaped .channels) (λ i. shaped .channel i «Channel::default») (shaped .infos) (sound .row))
       ∙ on-equal n s e (λ _. more))
 
   same-switches : (n : ℕ) (s : State) → turns (songOf t (behind t s .switches)) n (stateMap (behind t s)) ≡ turns (songOf t (s .switches)) n (stateMap (behind t s))
@@ -149,7 +150,7 @@ module _ (t : Tables) (rule : Sized (t .orders) (t .cells) (t .samples)) (bytes 
   going-reads n s shaped sound e more =
       second (s .path .ended) _ e
       (ap (readFrom (recordsRead (songOf t (s .switches)) (s .path .clock .rate) n) (songOf t (s .switches)) (s .path .clock .rate) (s .path .clock .start))
-      (entering-same t s rule bytes (shaped .channels) (λ i. shaped .channel i anyChannel) (shaped .infos) (sound .row))
+      (entering-same t s rule bytes (shaped .channels) (λ i. shaped .channel i «Channel::default») (shaped .infos) (sound .row))
       ∙ read-on n s e more)
 
   -- records

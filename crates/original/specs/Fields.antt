@@ -243,6 +243,30 @@ abbrev pub «ch_pan» : Channel → ℕ → Channel
     (c .«keep_vibrato_pos_on_new_note») (c .«keep_tremolo_pos_on_new_note») (c .«effect_memory») (c .muted) (c .frozen) (c .«right_bank»)
     (c .adlib) (c .«opl_voice») (c .«voice_global_vol»)
 
+abbrev pub «ch_muted» : Channel → Bool → Channel
+«ch_muted» c x =
+    channel (c .instrument) (c .frequency) (c .«sample_pos») (c .volume) (c .pan) (c .active) (c .«target_frequency») (c .command) (c .info)
+    (c .«vibrato_pos») (c .«tremolo_pos») (c .«last_note») (c .«pending_delay») (c .glissando) (c .«vibrato_waveform»)
+    (c .«tremolo_waveform») (c .«retrig_counter») (c .«tremor_on_counter») (c .«tremor_off_counter») (c .«stored_volume»)
+    (c .«keep_vibrato_pos_on_new_note») (c .«keep_tremolo_pos_on_new_note») (c .«effect_memory») x (c .frozen) (c .«right_bank») (c .adlib)
+    (c .«opl_voice») (c .«voice_global_vol»)
+
+abbrev pub «ch_right_bank» : Channel → Bool → Channel
+«ch_right_bank» c x =
+    channel (c .instrument) (c .frequency) (c .«sample_pos») (c .volume) (c .pan) (c .active) (c .«target_frequency») (c .command) (c .info)
+    (c .«vibrato_pos») (c .«tremolo_pos») (c .«last_note») (c .«pending_delay») (c .glissando) (c .«vibrato_waveform»)
+    (c .«tremolo_waveform») (c .«retrig_counter») (c .«tremor_on_counter») (c .«tremor_off_counter») (c .«stored_volume»)
+    (c .«keep_vibrato_pos_on_new_note») (c .«keep_tremolo_pos_on_new_note») (c .«effect_memory») (c .muted) (c .frozen) x (c .adlib)
+    (c .«opl_voice») (c .«voice_global_vol»)
+
+abbrev pub «ch_adlib» : Channel → Bool → Channel
+«ch_adlib» c x =
+    channel (c .instrument) (c .frequency) (c .«sample_pos») (c .volume) (c .pan) (c .active) (c .«target_frequency») (c .command) (c .info)
+    (c .«vibrato_pos») (c .«tremolo_pos») (c .«last_note») (c .«pending_delay») (c .glissando) (c .«vibrato_waveform»)
+    (c .«tremolo_waveform») (c .«retrig_counter») (c .«tremor_on_counter») (c .«tremor_off_counter») (c .«stored_volume»)
+    (c .«keep_vibrato_pos_on_new_note») (c .«keep_tremolo_pos_on_new_note») (c .«effect_memory») (c .muted) (c .frozen) (c .«right_bank») x
+    (c .«opl_voice») (c .«voice_global_vol»)
+
 -- the locals by their names in their order
 abbrev locals : ByteOption → ByteOption → ByteOption → ByteOption → ByteOption → ByteOption → ByteOption → Locals
 locals rowSpeed rowTempo jumpOrder jumpRow rowLoopRequest rowPatternDelay pendingGlobalVol =

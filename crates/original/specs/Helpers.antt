@@ -6,33 +6,33 @@ use lib.ListN.{length, getD}
 use lib.IntN.{pos}
 use lib.Ieee.{Float, nan, inf, fin, binary32, binary64, lt, le, add, sub, div, rem, ofInt, toUnsigned}
 use Rattle.laws.specs.Choice.{pick}
-use Rattle.pitch.specs.Periods.{periods}
 use Rattle.pitch.specs.Frequency.{narrowed}
 use Rattle.pitch.specs.Slides.{factorOf}
 use Rattle.channel.specs.declared.state.Channel.{Channel}
 use Rattle.channel.specs.declared.state.Waveform.{Waveform}
 use Rattle.channel.specs.declared.state.Waveform.the-variants.{Sine, RampDown, Square, Random}
+use Rattle.original.specs.Constants.{zeroFloat, «PCM_VOLUME_PEAK», «PERIOD_TABLE», «AMIGA_CLOCK_HZ», «AMIGA_LIMIT_PERIOD_MIN», «AMIGA_LIMIT_PERIOD_MAX»}
+use Rattle.original.specs.Constants.{«cmd::A_SET_SPEED», «cmd::B_POS_JUMP», «cmd::C_PAT_BREAK», «cmd::E_SLIDE_DOWN», «cmd::F_SLIDE_UP», «cmd::G_TONE_PORTA», «cmd::H_VIBRATO», «cmd::J_ARPEGGIO», «cmd::K_VIB_VOL», «cmd::L_PORT_VOL», «cmd::T_SET_TEMPO», «cmd::U_FINE_VIBRATO», «cmd::V_GLOBAL_VOL»}
 use Rattle.original.specs.Fields.{«ch_frequency», «ch_target_frequency», «ch_volume»}
 
--- 0.0
-abbrev pub zeroFloat : Float
-zeroFloat = fin false 0 (pos 0)
-
--- E, F, G, H, J, K, L, U
+-- matches!(command, cmd::E_SLIDE_DOWN | .. | cmd::U_FINE_VIBRATO)
 unfoldable pub «is_scx_resume_command» : ℕ → Bool
-«is_scx_resume_command» k = eqb k 5 || eqb k 6 || eqb k 7 || eqb k 8 || eqb k 10 || eqb k 11 || eqb k 12 || eqb k 21
+«is_scx_resume_command» k =
+    eqb k «cmd::E_SLIDE_DOWN» || eqb k «cmd::F_SLIDE_UP» || eqb k «cmd::G_TONE_PORTA» || eqb k «cmd::H_VIBRATO»
+    || eqb k «cmd::J_ARPEGGIO» || eqb k «cmd::K_VIB_VOL» || eqb k «cmd::L_PORT_VOL» || eqb k «cmd::U_FINE_VIBRATO»
 
 -- U → H slot
 unfoldable pub «effect_memory_slot» : ℕ → ℕ
-«effect_memory_slot» k = pick (eqb k 21) 8 k
+«effect_memory_slot» k = pick (eqb k «cmd::U_FINE_VIBRATO») «cmd::H_VIBRATO» k
 
--- all but A, B, C, T, V
+-- !matches!(command, cmd::A_SET_SPEED | .. | cmd::V_GLOBAL_VOL)
 unfoldable pub «effect_uses_memory» : ℕ → Bool
-«effect_uses_memory» k = not (eqb k 1 || eqb k 2 || eqb k 3 || eqb k 20 || eqb k 22)
+«effect_uses_memory» k =
+    not (eqb k «cmd::A_SET_SPEED» || eqb k «cmd::B_POS_JUMP» || eqb k «cmd::C_PAT_BREAK» || eqb k «cmd::T_SET_TEMPO» || eqb k «cmd::V_GLOBAL_VOL»)
 
 -- v.min(PCM_VOLUME_PEAK)
 unfoldable pub «clamp_pcm_volume» : ℕ → ℕ
-«clamp_pcm_volume» v = min v 63
+«clamp_pcm_volume» v = min v «PCM_VOLUME_PEAK»
 
 -- saturating_add(1) of a u8
 unfoldable pub oneMore : ℕ → ℕ
@@ -42,23 +42,19 @@ oneMore n = min (n + 1) 255
 unfoldable pub «from_nibble» : ℕ → Waveform
 «from_nibble» x = pick (eqb (x % 4) 0) Sine (pick (eqb (x % 4) 1) RampDown (pick (eqb (x % 4) 2) Square Random))
 
--- AMIGA_CLOCK_HZ
-abbrev pub clockHz : ℕ
-clockHz = 14317456
-
 -- let idx = n.clamp(0, PERIOD_TABLE.len() as i32 - 1) as usize; here n is not below 0
 abbrev pub tableIndex : ℕ → ℕ
-tableIndex n = min n (length periods - 1)
+tableIndex n = min n (length «PERIOD_TABLE» - 1)
 
 -- let period = 8363u64 * PERIOD_TABLE[idx] as u64 / (c2spd.max(1) as u64);
 abbrev pub tablePeriod : ℕ → ℕ → ℕ
-tablePeriod n c2spd = 8363 * getD periods (tableIndex n) 0 / max c2spd 1
+tablePeriod n c2spd = 8363 * getD «PERIOD_TABLE» (tableIndex n) 0 / max c2spd 1
 
 -- if period == 0 { return 0.0; } (AMIGA_CLOCK_HZ as f64 / period as f64) as f32
 unfoldable pub «note_index_to_frequency» : ℕ → ℕ → Float
 «note_index_to_frequency» n c2spd =
     pick (eqb (tablePeriod n c2spd) 0) zeroFloat
-    (narrowed (div binary64 (ofInt binary64 (pos clockHz)) (ofInt binary64 (pos (tablePeriod n c2spd)))))
+    (narrowed (div binary64 (ofInt binary64 (pos «AMIGA_CLOCK_HZ»)) (ofInt binary64 (pos (tablePeriod n c2spd)))))
 
 -- let n = octave * 12 + semitone; note_index_to_frequency(n, c5_speed)
 unfoldable pub «note_to_frequency» : ℕ → ℕ → Float
@@ -89,11 +85,11 @@ unfoldable pub «resolve_sample_offset» : ℕ → ℕ → ℕ → ℕ → Bool 
 
 -- (AMIGA_CLOCK_HZ as f32) / (AMIGA_LIMIT_PERIOD_MAX as f32)
 unfoldable pub lo : Float
-lo = div binary32 (ofInt binary32 (pos clockHz)) (ofInt binary32 (pos 856))
+lo = div binary32 (ofInt binary32 (pos «AMIGA_CLOCK_HZ»)) (ofInt binary32 (pos «AMIGA_LIMIT_PERIOD_MAX»))
 
 -- (AMIGA_CLOCK_HZ as f32) / (AMIGA_LIMIT_PERIOD_MIN as f32)
 unfoldable pub hi : Float
-hi = div binary32 (ofInt binary32 (pos clockHz)) (ofInt binary32 (pos 113))
+hi = div binary32 (ofInt binary32 (pos «AMIGA_CLOCK_HZ»)) (ofInt binary32 (pos «AMIGA_LIMIT_PERIOD_MIN»))
 
 -- f32::clamp(lo, hi): if self < min { self = min; }
 abbrev pub notBelow : Float → Float

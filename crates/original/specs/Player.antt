@@ -18,16 +18,17 @@ use Rattle.row_path.specs.declared.option.ByteOption.{ByteOption}
 use Rattle.row_path.specs.declared.option.ByteOption.the-variants.{None, Some}
 use Rattle.row_path.specs.declared.loops.Jump.{Jump}
 use Rattle.row_path.specs.declared.loops.Jump.the-variants.{Stay, To}
-use Rattle.pitch.specs.Finetune.{finetunes}
 use Rattle.channel.specs.declared.state.Channel.{Channel}
 use Rattle.channel.specs.declared.state.Played.{Played}
 use Rattle.channel.specs.declared.state.TriggerOption.the-variants.{None as NoTrigger, Some as ATrigger}
-use Rattle.channel.specs.declared.state.Waveform.the-variants.{Sine}
 use Rattle.original.specs.State.{Song, PlayerState, Locals}
 use Rattle.original.specs.Fields.{«ch_command», «ch_info», «ch_frozen», «ch_effect_memory», «ch_pending_delay», «ch_retrig_counter», «ch_instrument», «ch_volume», «ch_stored_volume», «ch_voice_global_vol», «ch_opl_voice», «ch_active», «ch_frequency», «ch_target_frequency», «ch_sample_pos», «ch_vibrato_pos», «ch_tremolo_pos», «ch_last_note», «ch_glissando», «ch_vibrato_waveform», «ch_keep_vibrato_pos_on_new_note», «ch_tremolo_waveform», «ch_keep_tremolo_pos_on_new_note», «ch_pan»}
 use Rattle.original.specs.Fields.{«let_row_speed», «let_row_tempo», «let_jump_order», «let_jump_row», «let_row_loop_request», «let_row_pattern_delay», «let_pending_global_vol»}
 use Rattle.original.specs.Fields.{«self_channels», «self_speed», «self_bpm», «self_global_volume», «self_order_index», «self_row», «self_ended», «self_pending_jump», «self_loop_start_row», «self_loop_count», «self_loop_pattern_order», «self_pattern_delay_remaining», «self_replaying_for_pattern_delay», «self_pending_global_vol», «self_strikes»}
-use Rattle.original.specs.Helpers.{zeroFloat, «is_scx_resume_command», «effect_memory_slot», «effect_uses_memory», «clamp_pcm_volume», oneMore, «from_nibble», «note_to_frequency», «resolve_sample_offset», «clamp_amiga», finePower, «apply_dxy_tick0_fast_slide»}
+use Rattle.original.specs.Constants.{zeroFloat, «ADLIB_VOLUME_PEAK», «S2X_FINETUNE_TABLE», «PATTERN_ROWS»}
+use Rattle.original.specs.Constants.{«cmd::A_SET_SPEED», «cmd::B_POS_JUMP», «cmd::C_PAT_BREAK», «cmd::D_VOL_SLIDE», «cmd::E_SLIDE_DOWN», «cmd::F_SLIDE_UP», «cmd::G_TONE_PORTA», «cmd::I_TREMOR», «cmd::L_PORT_VOL», «cmd::O_SAMPLE_OFFSET», «cmd::Q_RETRIGGER», «cmd::S_EXTENDED», «cmd::T_SET_TEMPO», «cmd::V_GLOBAL_VOL», «cmd::X_SET_PAN»}
+use Rattle.original.specs.New.{«Cell::EMPTY», «Channel::default»}
+use Rattle.original.specs.Helpers.{«is_scx_resume_command», «effect_memory_slot», «effect_uses_memory», «clamp_pcm_volume», oneMore, «from_nibble», «note_to_frequency», «resolve_sample_offset», «clamp_amiga», finePower, «apply_dxy_tick0_fast_slide»}
 
 -- ch.command = cell.command; ch.info = cell.info;
 unfoldable pub takeCell : Channel → Cell → Channel
@@ -53,54 +54,15 @@ clearDelay ch = «ch_pending_delay» ch NoTrigger
 
 -- if ch.command != cmd::Q_RETRIGGER { ch.retrig_counter = 0; }
 unfoldable pub clearRetrig : Channel → Channel
-clearRetrig ch = pick (not (eqb (ch .command) 17)) («ch_retrig_counter» ch 0) ch
+clearRetrig ch = pick (not (eqb (ch .command) «cmd::Q_RETRIGGER»)) («ch_retrig_counter» ch 0) ch
 
 -- the statements above in their order
 unfoldable pub prepare : Channel → Cell → Channel
 prepare ch cell = clearRetrig (clearDelay (recall (thaw (takeCell ch cell))))
 
--- any sample, channel and cell: what `getD` gives past a list's end, which no index in range reads
+-- any sample: what `getD` gives past a list's end, which no index in range reads
 abbrev pub anySample : Sample
 anySample = record { kind = 0; volume = 0; looped = false; length = 0; «loop_start» = 0; «loop_end» = 0; «c5_speed» = 0 }
-
--- any channel, with the Rust's `Default`
-abbrev pub anyChannel : Channel
-anyChannel =
-    record {
-      instrument = 0;
-      frequency = zeroFloat;
-      «sample_pos» = zeroFloat;
-      volume = 0;
-      pan = 8;
-      active = false;
-      «target_frequency» = zeroFloat;
-      command = 0;
-      info = 0;
-      «vibrato_pos» = 0;
-      «tremolo_pos» = 0;
-      «last_note» = 0;
-      «pending_delay» = NoTrigger;
-      glissando = false;
-      «vibrato_waveform» = Sine;
-      «tremolo_waveform» = Sine;
-      «retrig_counter» = 0;
-      «tremor_on_counter» = 0;
-      «tremor_off_counter» = 0;
-      «stored_volume» = 0;
-      «keep_vibrato_pos_on_new_note» = false;
-      «keep_tremolo_pos_on_new_note» = false;
-      «effect_memory» = [];
-      muted = false;
-      frozen = false;
-      «right_bank» = false;
-      adlib = false;
-      «opl_voice» = 0;
-      «voice_global_vol» = 64;
-    }
-
--- Cell::EMPTY
-abbrev pub anyCell : Cell
-anyCell = record { note = 255; instrument = 0; volume = 255; command = 0; info = 0 }
 
 -- self.samples.get(i)
 unfoldable pub sampleGet : Song → ℕ → SampleOption
@@ -108,7 +70,7 @@ sampleGet m i = pick (ltb i (length (m .samples))) (ASample (getD (m .samples) i
 
 -- let v = if ch.adlib { s.volume.min(ADLIB_VOLUME_PEAK) } else { clamp_pcm_volume(s.volume as u16) };
 unfoldable pub loadVolume : Channel → Sample → ℕ
-loadVolume ch s = pick (ch .adlib) (min (s .volume) 64) («clamp_pcm_volume» (s .volume))
+loadVolume ch s = pick (ch .adlib) (min (s .volume) «ADLIB_VOLUME_PEAK») («clamp_pcm_volume» (s .volume))
 
 -- ch.volume = v; ch.stored_volume = v; ch.voice_global_vol = self.global_volume;
 abbrev pub storeVolume : Channel → ℕ → ℕ → Channel
@@ -137,7 +99,7 @@ noteCut ch =
 
 -- let porta = ch.command == cmd::G_TONE_PORTA || ch.command == cmd::L_PORT_VOL;
 unfoldable pub porta : Channel → Bool
-porta ch = eqb (ch .command) 7 || eqb (ch .command) 12
+porta ch = eqb (ch .command) «cmd::G_TONE_PORTA» || eqb (ch .command) «cmd::L_PORT_VOL»
 
 -- ch.target_frequency = freq; Self::clamp_amiga(ch, self.amiga_limits); ch.last_note = cell.note;
 unfoldable pub slideTo : Bool → ℕ → Float → Channel → Channel
@@ -146,7 +108,7 @@ slideTo amiga note freq ch = «ch_last_note» («clamp_amiga» («ch_target_freq
 -- if ch.command == cmd::O_SAMPLE_OFFSET { ch.sample_pos = resolve_sample_offset(ch.info as u64 * 256, ..); } else { ch.sample_pos = 0.0; }
 unfoldable pub setCursor : Sample → Channel → Channel
 setCursor s ch =
-    pick (eqb (ch .command) 15)
+    pick (eqb (ch .command) «cmd::O_SAMPLE_OFFSET»)
     («ch_sample_pos» ch («resolve_sample_offset» (ch .info * 256) (s .«loop_start») (s .«loop_end») (s .length) (s .looped)))
     («ch_sample_pos» ch zeroFloat)
 
@@ -219,11 +181,11 @@ playColumns m g cell ch = volumeAfterNote g cell (noteColumn m cell (instrumentC
 
 -- let is_note_delay = ch.command == cmd::S_EXTENDED && (ch.info >> 4) == 0xD && (ch.info & 0x0F) != 0;
 unfoldable pub «is_note_delay» : Channel → Bool
-«is_note_delay» ch = eqb (ch .command) 19 && eqb (ch .info / 16) 0xD && not (eqb (ch .info % 16) 0)
+«is_note_delay» ch = eqb (ch .command) «cmd::S_EXTENDED» && eqb (ch .info / 16) 0xD && not (eqb (ch .info % 16) 0)
 
 -- let is_s00_repeat_sdx = is_note_delay && raw_info == 0 && cell.command == cmd::S_EXTENDED;
 unfoldable pub «is_s00_repeat_sdx» : Channel → Cell → Bool
-«is_s00_repeat_sdx» ch cell = «is_note_delay» ch && eqb (cell .info) 0 && eqb (cell .command) 19
+«is_s00_repeat_sdx» ch cell = «is_note_delay» ch && eqb (cell .info) 0 && eqb (cell .command) «cmd::S_EXTENDED»
 
 -- ch.pending_delay = Some(PendingTrigger { .. });
 unfoldable pub stash : Channel → Cell → Channel
@@ -261,7 +223,7 @@ fineSlide amiga f ch =
 unfoldable pub finetune : Bool → ℕ → Channel → Channel
 finetune amiga p ch =
     pick (not (eqb (ch .«last_note») 0))
-    («clamp_amiga» («ch_target_frequency» («ch_frequency» ch («note_to_frequency» (ch .«last_note») (getD finetunes p 0))) («note_to_frequency» (ch .«last_note») (getD finetunes p 0))) amiga)
+    («clamp_amiga» («ch_target_frequency» («ch_frequency» ch («note_to_frequency» (ch .«last_note») (getD «S2X_FINETUNE_TABLE» p 0))) («note_to_frequency» (ch .«last_note») (getD «S2X_FINETUNE_TABLE» p 0))) amiga)
     ch
 
 -- S3x: ch.vibrato_waveform = Waveform::from_nibble(p); ch.keep_vibrato_pos_on_new_note = (p & 0x04) != 0;
@@ -300,21 +262,21 @@ extended amiga sub p t =
 abbrev pub breakTo : ℕ → ℕ
 breakTo info = info / 16 * 10 + info % 16
 
--- match ch.command { .. }, with k for ch.command and i for ch.info; Qxy (17) and Ixy (9) do nothing here
+-- match ch.command { .. }, with k for ch.command and i for ch.info; Qxy and Ixy do nothing here
 unfoldable pub tickZero : Song → ℕ → ℕ → Tick → Tick
 tickZero m k i t =
-    pick (eqb k 1 && not (eqb i 0)) (record { ch = t .ch; a = «let_row_speed» (t .a) (Some i) })
-    (pick (eqb k 2) (record { ch = t .ch; a = «let_jump_order» (t .a) (Some i) })
-    (pick (eqb k 3) (pick (ltb (breakTo i) 64) (record { ch = t .ch; a = «let_jump_row» (t .a) (Some (breakTo i)) }) t)
-    (pick (eqb k 4) (record { ch = volumeSlide (m .«fast_slides») (i / 16) (i % 16) (t .ch); a = t .a })
-    (pick (eqb k 5 && leb 0xE0 i) (record { ch = fineSlide (m .«amiga_limits») (finePower false i) (t .ch); a = t .a })
-    (pick (eqb k 6 && leb 0xE0 i) (record { ch = fineSlide (m .«amiga_limits») (finePower true i) (t .ch); a = t .a })
-    (pick (eqb k 17) t
-    (pick (eqb k 9 && (not (eqb (i / 16) 0) || not (eqb (i % 16) 0))) t
-    (pick (eqb k 20 && leb 0x20 i) (record { ch = t .ch; a = «let_row_tempo» (t .a) (Some i) })
-    (pick (eqb k 22 && leb i 0x40) (record { ch = t .ch; a = «let_pending_global_vol» (t .a) (Some i) })
-    (pick (eqb k 19) (extended (m .«amiga_limits») (i / 16) (i % 16) t)
-    (pick (eqb k 24) (record { ch = «ch_pan» (t .ch) (min (i * 15 / 0x80) 15); a = t .a })
+    pick (eqb k «cmd::A_SET_SPEED» && not (eqb i 0)) (record { ch = t .ch; a = «let_row_speed» (t .a) (Some i) })
+    (pick (eqb k «cmd::B_POS_JUMP») (record { ch = t .ch; a = «let_jump_order» (t .a) (Some i) })
+    (pick (eqb k «cmd::C_PAT_BREAK») (pick (ltb (breakTo i) 64) (record { ch = t .ch; a = «let_jump_row» (t .a) (Some (breakTo i)) }) t)
+    (pick (eqb k «cmd::D_VOL_SLIDE») (record { ch = volumeSlide (m .«fast_slides») (i / 16) (i % 16) (t .ch); a = t .a })
+    (pick (eqb k «cmd::E_SLIDE_DOWN» && leb 0xE0 i) (record { ch = fineSlide (m .«amiga_limits») (finePower false i) (t .ch); a = t .a })
+    (pick (eqb k «cmd::F_SLIDE_UP» && leb 0xE0 i) (record { ch = fineSlide (m .«amiga_limits») (finePower true i) (t .ch); a = t .a })
+    (pick (eqb k «cmd::Q_RETRIGGER») t
+    (pick (eqb k «cmd::I_TREMOR» && (not (eqb (i / 16) 0) || not (eqb (i % 16) 0))) t
+    (pick (eqb k «cmd::T_SET_TEMPO» && leb 0x20 i) (record { ch = t .ch; a = «let_row_tempo» (t .a) (Some i) })
+    (pick (eqb k «cmd::V_GLOBAL_VOL» && leb i 0x40) (record { ch = t .ch; a = «let_pending_global_vol» (t .a) (Some i) })
+    (pick (eqb k «cmd::S_EXTENDED») (extended (m .«amiga_limits») (i / 16) (i % 16) t)
+    (pick (eqb k «cmd::X_SET_PAN») (record { ch = «ch_pan» (t .ch) (min (i * 15 / 0x80) 15); a = t .a })
     t)))))))))))
 
 -- if ch.volume != vol_before_row { ch.voice_global_vol = self.global_volume; }
@@ -349,8 +311,8 @@ storeTurn i struck t l = record { channels = set (l .channels) i (t .ch); a = t 
 unfoldable pub turnAt : Song → ℕ → List Cell → ℕ → Pass → Pass
 turnAt m g cells i l =
     storeTurn i
-    (playChannel m g (getD cells i anyCell) (getD (l .channels) i anyChannel) .struck)
-    (channelTick m g (getD cells i anyCell) (record { ch = getD (l .channels) i anyChannel; a = l .a }))
+    (playChannel m g (getD cells i «Cell::EMPTY») (getD (l .channels) i «Channel::default») .struck)
+    (channelTick m g (getD cells i «Cell::EMPTY») (record { ch = getD (l .channels) i «Channel::default»; a = l .a }))
     l
 
 -- for (ch_idx, cell) in row_cells.iter().enumerate(), its first n turns; if replaying_held_row { continue; }
@@ -499,7 +461,7 @@ orNext (Some o) at = o
 abbrev pub moveOn : Jump → PlayerState → PlayerState
 moveOn (To o r) s = «self_row» («self_order_index» («self_pending_jump» s Stay) (orNext o (s .«order_index»))) r
 moveOn Stay s =
-    pick (leb 64 (s .row + 1)) («self_order_index» («self_row» («self_row» s (s .row + 1)) 0) (oneMore (s .«order_index»)))
+    pick (leb «PATTERN_ROWS» (s .row + 1)) («self_order_index» («self_row» («self_row» s (s .row + 1)) 0) (oneMore (s .«order_index»)))
     («self_row» s (s .row + 1))
 
 -- if self.order_index as usize >= self.order.len() { self.ended = true; }
