@@ -102,9 +102,13 @@ module _ (t : Tables) (s : State) where
   abbrev played : Rowed
   played = rowPlayed t (s .switches) e (voicesOf s)
 
-  pub map-played : e .path .ended ≡ false → enteredMap t s e ≡ playedMap s e played (waitingIn t e)
-  unfolding enteredMap entered
-  map-played h = first (patternThere t (s .path)) _ (there-by (t .cells) (s .path) _ _ h) refl
+  pub going-there : e .path .ended ≡ false → patternThere t (s .path) ≡ true
+  unfolding entered
+  going-there h = there-by (t .cells) (s .path) _ _ h
+
+  pub map-played : patternThere t (s .path) ≡ true → enteredMap t s e ≡ playedMap s e played (waitingIn t e)
+  unfolding enteredMap
+  map-played h = first (patternThere t (s .path)) _ h refl
 
   volume-same : orBefore (waitingIn t e) (s .«global_volume») ≡ played .«global_volume»
   unfolding rowPlayed rowVisited rowEntered
@@ -121,7 +125,7 @@ module _ (t : Tables) (s : State) where
   abbrev pub behind : State
   behind = stateWith s (left (t .orders) e) (voicesAfter t (s .switches) e (voicesOf s))
 
-  pub leaving-same : e .path .ended ≡ false → «next_row» (songOf t (s .switches)) (enteredMap t s e) ≡ stateMap behind
+  pub leaving-same : patternThere t (s .path) ≡ true → «next_row» (songOf t (s .switches)) (enteredMap t s e) ≡ stateMap behind
   unfolding «next_row» songOf playerOf stateWith voicesAfter
   leaving-same h =
       ap («next_row» (songOf t (s .switches))) (map-played h)

@@ -10,7 +10,7 @@ use Rattle.laws.specs.Entries.{mapFrom}
 use Rattle.laws.proofs.Picks.{choice}
 use Rattle.tune.specs.Sizes.{patternCount}
 use Rattle.row_path.specs.Orders.{skipped, patternAt}
-use Rattle.row_path.specs.Enter.{endedAt, arrived, settled, acted, visited, enteredAt, entered}
+use Rattle.row_path.specs.Enter.{arrived, settled, acted, visited, enteredAt, entered}
 use Rattle.row_path.specs.Leave.{lengthOf}
 use Rattle.row_path.specs.declared.option.ByteOption.{ByteOption}
 use Rattle.row_path.specs.declared.option.ByteOption.the-variants.{None, Some}
@@ -24,7 +24,7 @@ use Rattle.section.specs.Records.{rowHead, channelBytes, channelsBytes, recordB
 use Rattle.section.specs.Machines.{rowPlayed, recordOf}
 use Rattle.section.specs.Walk.{voicesOf}
 use Rattle.section.specs.declared.state.State.{State}
-use Rattle.original.specs.Map.{songOf, rustChannel, rustChannels, playerOf, rowFrom, enteredMap}
+use Rattle.original.specs.Map.{songOf, rustChannel, rustChannels, playerOf, rowFrom, isSome, patternThere, enteredMap}
 use Rattle.original.specs.Turns.{rowLength, recordRead}
 use Rattle.original.proofs.Leaving.{map-played}
 
@@ -38,7 +38,7 @@ rust-bytes : (cs : List Channel) (infos : List ℕ) → channelsBytes (rustChann
 unfolding rustChannels
 rust-bytes cs infos = bytes-same cs 0 infos
 
--- the pattern of a row that did not end the tune is the one that its order names
+-- the pattern of a row that is there is the one that its order names
 named : (orders : List ℕ) (n at v : ℕ) → patternAt orders n at ≡ Some v → v ≡ getD orders at 0
 unfolding patternAt
 named orders n at v = by (ltb at (length orders)) (eqb (getD orders at 0) 0xFF) (ltb (getD orders at 0) n)
@@ -53,10 +53,10 @@ visited-place : (cells : List ℕ) (p : Path) (v : ℕ) → (visited cells p v .
 unfolding visited acted settled
 visited-place cells p v = choice (λ (e : Entered). (e .pattern ≡ v) × (e .path .place .order ≡ p .place .order)) (p .hold .held) (λ _. (refl, refl)) (λ _. (refl, refl))
 
-named-by : (orders cells : List ℕ) (p : Path) (n at : ℕ) (x : ByteOption) → patternAt orders n at ≡ x → enteredAt cells p at x .path .ended ≡ false
+named-by : (orders cells : List ℕ) (p : Path) (n at : ℕ) (x : ByteOption) → patternAt orders n at ≡ x → isSome x ≡ true
     → enteredAt cells p at x .pattern ≡ getD orders (enteredAt cells p at x .path .place .order) 0
-unfolding enteredAt endedAt arrived
-named-by orders cells p n at None e g = absurd (false≢true (sym g))
+unfolding enteredAt arrived
+named-by orders cells p n at None e g = absurd (false≢true g)
 named-by orders cells p n at (Some v) e g =
     let z = visited-place cells (arrived p at) v in
     z .0 ∙ named orders n at v e ∙ ap (λ (k : ℕ). getD orders k 0) (sym (z .1))
@@ -65,19 +65,19 @@ module _ (t : Tables) (s : State) where
   abbrev e : Entered
   e = rowFrom t s
 
-  pattern-named : e .path .ended ≡ false → e .pattern ≡ getD (t .orders) (e .path .place .order) 0
+  pattern-named : patternThere t (s .path) ≡ true → e .pattern ≡ getD (t .orders) (e .path .place .order) 0
   unfolding entered
   pattern-named g = named-by (t .orders) (t .cells) (s .path) (patternCount (t .cells)) (skipped (t .orders) (s .path .place .order)) _ refl g
 
   -- the length of the row
-  pub length-read : e .path .ended ≡ false → rowLength (s .path .clock .rate) (enteredMap t s e) ≡ lengthOf (e .path .clock)
+  pub length-read : patternThere t (s .path) ≡ true → rowLength (s .path .clock .rate) (enteredMap t s e) ≡ lengthOf (e .path .clock)
   unfolding playerOf lengthOf
   length-read g =
       ap (rowLength (s .path .clock .rate)) (map-played t s g)
       ∙ ap (λ (r : ℕ). e .path .clock .speed * 5 * r / (2 * e .path .clock .tempo)) (sym (entered-clock (t .orders) (t .cells) (s .path) .0))
 
   -- the record of the row
-  pub record-read : e .path .ended ≡ false → recordRead (songOf t (s .switches)) (s .path .clock .rate) (s .path .clock .start) (enteredMap t s e) ≡ recordOf t (s .switches) e (voicesOf s)
+  pub record-read : patternThere t (s .path) ≡ true → recordRead (songOf t (s .switches)) (s .path .clock .rate) (s .path .clock .start) (enteredMap t s e) ≡ recordOf t (s .switches) e (voicesOf s)
   unfolding recordRead songOf playerOf recordOf recordBytes rowHead lengthOf
   record-read g =
       ap (recordRead (songOf t (s .switches)) (s .path .clock .rate) (s .path .clock .start)) (map-played t s g)

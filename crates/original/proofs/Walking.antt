@@ -2,33 +2,37 @@
 use Prim.Native.Nat.{ℕ, zero, suc, _+_}
 use mathlib.Core.Path.{_≡_, refl, sym, ap, _∙_}
 use mathlib.Core.Bool.{Bool, true, false, false≢true}
-use mathlib.Core.List.{List, _∷_}
+use mathlib.Core.List.{List}
 use Rattle.laws.specs.Choice.{pick}
 use Rattle.laws.proofs.Picks.{choice, chain}
 use Rattle.tune.proofs.Sized.{Sized}
 use Rattle.row_path.specs.Enter.{endedAt, arrived, settled, acted, visited, enteredAt, entered}
 use Rattle.row_path.specs.Leave.{lengthOf, ticked, left}
 use Rattle.row_path.specs.Sound.{Sound}
-use Rattle.row_path.specs.Walk.{Stop, Row, turnBy, turn}
+use Rattle.row_path.specs.Walk.{Stop, Row, turnBy, turn, more, onward, pathWalk}
 use Rattle.row_path.specs.declared.option.ByteOption.{ByteOption}
 use Rattle.row_path.specs.declared.option.ByteOption.the-variants.{None, Some}
 use Rattle.row_path.specs.declared.loops.Jump.the-variants.{Stay}
 use Rattle.row_path.specs.declared.machine.Clock.{Clock}
+use Rattle.row_path.specs.declared.machine.Path.{Path}
 use Rattle.row_path.specs.declared.machine.Entered.{Entered}
 use Rattle.row_path.proofs.Unmoved.{entered-clock, left-clock, left-start}
+use Rattle.row_path.proofs.Walks.{turn-kinds}
 use Rattle.section.specs.Tables.{Tables}
 use Rattle.section.specs.Machines.{rowPlayed, recordOf}
-use Rattle.section.specs.Walk.{voicesOf, stateWith, stepBy, step, onto, goOn, walk}
+use Rattle.section.specs.Walk.{voicesOf, stateWith, stepBy, step, Walked, onto, goOn, walk}
 use Rattle.section.specs.Typed.{Shaped, ByteTables}
 use Rattle.section.specs.declared.state.State.{State}
+use Rattle.section.proofs.Walks.{machines, walk-machines}
 use Rattle.original.specs.State.{Song, PlayerState}
 use Rattle.original.specs.New.{«Channel::default»}
 use Rattle.original.specs.Player.{«next_row»}
 use Rattle.original.specs.Map.{songOf, playerOf, stateMap, waitingIn, rowFrom, isSome, patternThere, playedMap, enteredMap}
-use Rattle.original.specs.Turns.{onFrom, turns, readFrom, recordsRead}
+use Rattle.original.specs.Turns.{onFrom, turns, ReadOff, noneRead, oneRead, readFrom, rowsRead}
+use Rattle.original.specs.Call.{readFor}
 use Rattle.original.proofs.Arms.{first, second}
 use Rattle.original.proofs.Entering.{entering-same}
-use Rattle.original.proofs.Leaving.{map-played, leaving-same, behind}
+use Rattle.original.proofs.Leaving.{going-there, map-played, leaving-same, behind}
 use Rattle.original.proofs.Reading.{length-read, record-read}
 use Rattle.original.proofs.Staying.{behind-sound, behind-shaped}
 
@@ -50,6 +54,31 @@ map-stopped : (t : Tables) (s : State) → s .path .ended ≡ false → rowFrom 
 unfolding enteredMap entered stateWith
 map-stopped t s g e = closed-by (t .cells) s t _ _ g e
 
+-- the rate behind a row, and behind any number of rows
+rate-left : (t : Tables) (p : Path) → left (t .orders) (entered (t .orders) (t .cells) p) .clock .rate ≡ p .clock .rate
+unfolding ticked
+rate-left t p = ap (λ (c : Clock). c .rate) (left-clock (t .orders) (entered (t .orders) (t .cells) p)) ∙ entered-clock (t .orders) (t .cells) p .0
+
+rate-walked : (t : Tables) (n : ℕ) (p : Path) → pathWalk (t .orders) (t .cells) n p .path .clock .rate ≡ p .clock .rate
+unfolding pathWalk onward more
+rate-walked t zero p = refl
+rate-walked t (suc n) p =
+    turn-kinds (t .orders) (t .cells) (λ u. onward u (pathWalk (t .orders) (t .cells) n) .path .clock .rate ≡ p .clock .rate) p
+    (λ _. refl)
+    (λ _. entered-clock (t .orders) (t .cells) p .0)
+    (λ _. rate-walked t n (left (t .orders) (entered (t .orders) (t .cells) p)) ∙ rate-left t p)
+
+-- a walk keeps the switches and the rate
+pub walk-keeps : (t : Tables) (n : ℕ) (s : State) → (walk t n s .state .switches ≡ s .switches) × (walk t n s .state .path .clock .rate ≡ s .path .clock .rate)
+unfolding machines stateWith
+walk-keeps t n s =
+    let m = walk-machines t n s in
+    (ap (λ (w : Walked). w .state .switches) m, ap (λ (w : Walked). w .state .path .clock .rate) m ∙ rate-walked t n (s .path))
+
+-- what our walk gives to be read
+abbrev pub readOff : Walked → ReadOff
+readOff w = record { records = w .records; start = w .state .path .clock .start }
+
 module _ (t : Tables) (rule : Sized (t .orders) (t .cells) (t .samples)) (bytes : ByteTables t) where
   -- a row that was entered, and what the walks do from there
   on-equal : (n : ℕ) (s : State) → s .path .ended ≡ false
@@ -67,8 +96,9 @@ module _ (t : Tables) (rule : Sized (t .orders) (t .cells) (t .samples)) (bytes 
           ≡ stateMap (goOn (stepBy t s (pick b (Stop (rowFrom t s .path)) (Row (rowFrom t s) (left (t .orders) (rowFrom t s))))) (walk t n) .state)
       by true e = ap (onFrom (turns m n) m) (map-stopped t s g e) ∙ first (rowFrom t s .path .ended) _ e refl
       by false e =
-          ap (onFrom (turns m n) m) (map-played t s e)
-          ∙ second (rowFrom t s .path .ended) _ e (ap (λ (z : PlayerState). turns m n («next_row» m z)) (sym (map-played t s e)) ∙ ap (turns m n) (leaving-same t s e) ∙ more e)
+          let there = going-there t s e in
+          ap (onFrom (turns m n) m) (map-played t s there)
+          ∙ second (rowFrom t s .path .ended) _ e (ap (λ (z : PlayerState). turns m n («next_row» m z)) (sym (map-played t s there)) ∙ ap (turns m n) (leaving-same t s there) ∙ more e)
 
   ended-equal : (n : ℕ) (s : State) → s .path .ended ≡ true → turns (songOf t (s .switches)) (suc n) (stateMap s) ≡ stateMap (goOn (stepBy t s (Stop (s .path))) (walk t n) .state)
   unfolding turns playerOf goOn stepBy stateWith
@@ -106,8 +136,8 @@ module _ (t : Tables) (rule : Sized (t .orders) (t .cells) (t .samples)) (bytes 
 
   -- rate and card start behind a row
   behind-rate : (s : State) → behind t s .path .clock .rate ≡ s .path .clock .rate
-  unfolding stateWith ticked
-  behind-rate s = ap (λ (c : Clock). c .rate) (left-clock (t .orders) (rowFrom t s)) ∙ entered-clock (t .orders) (t .cells) (s .path) .0
+  unfolding stateWith
+  behind-rate s = rate-left t (s .path)
 
   behind-start : (s : State) → behind t s .path .clock .start ≡ s .path .clock .start + lengthOf (rowFrom t s .path .clock)
   unfolding stateWith
@@ -115,13 +145,10 @@ module _ (t : Tables) (rule : Sized (t .orders) (t .cells) (t .samples)) (bytes 
       left-start (t .orders) (rowFrom t s)
       ∙ ap (λ (n : ℕ). n + lengthOf (rowFrom t s .path .clock)) (entered-clock (t .orders) (t .cells) (s .path) .1)
 
-  abbrev pub readAs : ℕ → State → List (List ℕ)
-  readAs n s = recordsRead (songOf t (s .switches)) (s .path .clock .rate) n (s .path .clock .start) (stateMap s)
-
-  read-on : (n : ℕ) (s : State) → s .path .ended ≡ false → readAs n (behind t s) ≡ walk t n (behind t s) .records
-      → readFrom (recordsRead (songOf t (s .switches)) (s .path .clock .rate) n) (songOf t (s .switches)) (s .path .clock .rate) (s .path .clock .start) (enteredMap t s (rowFrom t s))
-      ≡ goOn (stepBy t s (turnBy (t .orders) (rowFrom t s))) (walk t n) .records
-  unfolding readFrom turnBy stepBy goOn onto stateWith
+  read-on : (n : ℕ) (s : State) → s .path .ended ≡ false → readFor t (behind t s) n ≡ readOff (walk t n (behind t s))
+      → readFrom (rowsRead (songOf t (s .switches)) (s .path .clock .rate) n) (songOf t (s .switches)) (s .path .clock .rate) (s .path .clock .start) (enteredMap t s (rowFrom t s))
+      ≡ readOff (goOn (stepBy t s (turnBy (t .orders) (rowFrom t s))) (walk t n))
+  unfolding oneRead readFrom turnBy stepBy goOn onto stateWith
   read-on n s g more = by (rowFrom t s .path .ended) refl
     where
       m : Song
@@ -131,36 +158,38 @@ module _ (t : Tables) (rule : Sized (t .orders) (t .cells) (t .samples)) (bytes 
       r = s .path .clock .rate
 
       by : (b : Bool) → rowFrom t s .path .ended ≡ b
-          → readFrom (recordsRead m r n) m r (s .path .clock .start) (enteredMap t s (rowFrom t s))
-          ≡ goOn (stepBy t s (pick b (Stop (rowFrom t s .path)) (Row (rowFrom t s) (left (t .orders) (rowFrom t s))))) (walk t n) .records
-      by true e = first (enteredMap t s (rowFrom t s) .ended) _ (entered-ended s ∙ e) refl
+          → readFrom (rowsRead m r n) m r (s .path .clock .start) (enteredMap t s (rowFrom t s))
+          ≡ readOff (goOn (stepBy t s (pick b (Stop (rowFrom t s .path)) (Row (rowFrom t s) (left (t .orders) (rowFrom t s))))) (walk t n))
+      by true e =
+          first (enteredMap t s (rowFrom t s) .ended) _ (entered-ended s ∙ e) (ap noneRead (sym (entered-clock (t .orders) (t .cells) (s .path) .1)))
       by false e =
+          let there = going-there t s e in
           second (enteredMap t s (rowFrom t s) .ended) _ (entered-ended s ∙ e)
-          ((λ i. record-read t s e i ∷ recordsRead m r n (s .path .clock .start + length-read t s e i) (leaving-same t s e i))
-          ∙ ap (λ (rest : List (List ℕ)). recordOf t (s .switches) (rowFrom t s) (voicesOf s) ∷ rest)
-          ((λ i. recordsRead m (sym (behind-rate s) i) n (sym (behind-start s) i) (stateMap (behind t s))) ∙ more))
+          ((λ i. oneRead (record-read t s there i) (rowsRead m r n (s .path .clock .start + length-read t s there i) (leaving-same t s there i)))
+          ∙ ap (oneRead (recordOf t (s .switches) (rowFrom t s) (voicesOf s)))
+          ((λ i. rowsRead m (sym (behind-rate s) i) n (sym (behind-start s) i) (stateMap (behind t s))) ∙ more))
 
-  ended-reads : (n : ℕ) (s : State) → s .path .ended ≡ true → readAs (suc n) s ≡ goOn (stepBy t s (Stop (s .path))) (walk t n) .records
-  unfolding recordsRead playerOf goOn stepBy
+  ended-reads : (n : ℕ) (s : State) → s .path .ended ≡ true → readFor t s (suc n) ≡ readOff (goOn (stepBy t s (Stop (s .path))) (walk t n))
+  unfolding rowsRead playerOf goOn stepBy stateWith
   ended-reads n s e = first (s .path .ended) _ e refl
 
-  going-reads : (n : ℕ) (s : State) → Shaped s → Sound (s .path) → s .path .ended ≡ false → readAs n (behind t s) ≡ walk t n (behind t s) .records
-      → readAs (suc n) s ≡ goOn (stepBy t s (turnBy (t .orders) (rowFrom t s))) (walk t n) .records
-  unfolding recordsRead playerOf
+  going-reads : (n : ℕ) (s : State) → Shaped s → Sound (s .path) → s .path .ended ≡ false → readFor t (behind t s) n ≡ readOff (walk t n (behind t s))
+      → readFor t s (suc n) ≡ readOff (goOn (stepBy t s (turnBy (t .orders) (rowFrom t s))) (walk t n))
+  unfolding rowsRead playerOf
   going-reads n s shaped sound e more =
       second (s .path .ended) _ e
-      (ap (readFrom (recordsRead (songOf t (s .switches)) (s .path .clock .rate) n) (songOf t (s .switches)) (s .path .clock .rate) (s .path .clock .start))
+      (ap (readFrom (rowsRead (songOf t (s .switches)) (s .path .clock .rate) n) (songOf t (s .switches)) (s .path .clock .rate) (s .path .clock .start))
       (entering-same t s rule bytes (shaped .channels) (λ i. shaped .channel i «Channel::default») (shaped .infos) (sound .row))
       ∙ read-on n s e more)
 
-  -- records
-  pub reads-equal : (n : ℕ) (s : State) → Shaped s → Sound (s .path) → readAs n s ≡ walk t n s .records
-  unfolding recordsRead walk step turn
+  -- records and card starts
+  pub reads-equal : (n : ℕ) (s : State) → Shaped s → Sound (s .path) → readFor t s n ≡ readOff (walk t n s)
+  unfolding rowsRead walk step turn
   reads-equal zero s shaped sound = refl
   reads-equal (suc n) s shaped sound =
       by (s .path .ended) refl (reads-equal n (behind t s) (behind-shaped t s rule bytes shaped sound) (behind-sound t s rule bytes shaped sound))
     where
-      by : (b : Bool) → s .path .ended ≡ b → readAs n (behind t s) ≡ walk t n (behind t s) .records
-          → readAs (suc n) s ≡ goOn (stepBy t s (pick b (Stop (s .path)) (turnBy (t .orders) (rowFrom t s)))) (walk t n) .records
+      by : (b : Bool) → s .path .ended ≡ b → readFor t (behind t s) n ≡ readOff (walk t n (behind t s))
+          → readFor t s (suc n) ≡ readOff (goOn (stepBy t s (pick b (Stop (s .path)) (turnBy (t .orders) (rowFrom t s)))) (walk t n))
       by true e more = ended-reads n s e
       by false e more = going-reads n s shaped sound e more

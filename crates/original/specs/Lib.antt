@@ -6,3 +6,4 @@ pub mod Helpers
 pub mod Player
 pub mod Map
 pub mod Turns
+pub mod Call
