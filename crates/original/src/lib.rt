@@ -1,1 +1,2 @@
-// The original Rust, transcribed; no code of its own.
+// The original Rust, transcribed; its code is one call, whose promise is demand 2.
+pub mod witness;
