@@ -28,7 +28,7 @@ finetune-table-equal = refl
 -- a note's frequency
 pub frequency-equal : (note c5 : ℕ) → «note_to_frequency» note c5 ≡ noteFrequency note c5
 unfolding «note_to_frequency» «note_index_to_frequency» noteFrequency frequencyOf periodAt periodOf noteNumber
-frequency-equal note c5 = rw period-table-equal
+frequency-equal note c5 = rw period-table-equal refl
 
 once : (c5 : ℕ) → max (max c5 1) 1 ≡ max c5 1
 once c5 = omega arith
