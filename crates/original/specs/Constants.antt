@@ -15,7 +15,7 @@ abbrev pub «PCM_VOLUME_PEAK» : ℕ
 abbrev pub «ADLIB_VOLUME_PEAK» : ℕ
 «ADLIB_VOLUME_PEAK» = 64
 
--- pub mod cmd
+-- pub mod cmd, those that `enter_row` names
 abbrev pub «cmd::A_SET_SPEED» : ℕ
 «cmd::A_SET_SPEED» = 1
 

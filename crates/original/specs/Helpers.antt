@@ -119,7 +119,7 @@ finePower isUp info = factorOf (pick isUp 32 0 + pick (eqb (info / 16 * 16) 0xE0
 -- Dx0 up by x; D0y down by y; Dxy with both 1 to 14 down by y; else as it is
 unfoldable pub «apply_dxy_tick0_fast_slide» : Channel → ℕ → ℕ → Channel
 «apply_dxy_tick0_fast_slide» ch x y =
-    pick (not (eqb x 0) && eqb y 0 && not (eqb x 15)) («ch_volume» ch («clamp_pcm_volume» (ch .volume + x)))
-    (pick (not (eqb y 0) && eqb x 0 && not (eqb y 15)) («ch_volume» ch (ch .volume - y))
-    (pick (not (eqb x 0) && not (eqb y 0) && not (eqb x 15) && not (eqb y 15)) («ch_volume» ch (ch .volume - y))
+    pick (not (eqb x 0) && eqb y 0 && not (eqb x 0xF)) («ch_volume» ch («clamp_pcm_volume» (ch .volume + x)))
+    (pick (not (eqb y 0) && eqb x 0 && not (eqb y 0xF)) («ch_volume» ch (ch .volume - y))
+    (pick (not (eqb x 0) && not (eqb y 0) && not (eqb x 0xF) && not (eqb y 0xF)) («ch_volume» ch (ch .volume - y))
     ch))

@@ -160,8 +160,8 @@ slideBack amiga s ch = «clamp_amiga» («ch_target_frequency» ch (pitchOf (ch 
 -- if cell.note == 0xFE { cut } else if cell.note != 0xFF { start } else if porta && ch.last_note != 0 { slide back }
 unfoldable pub noteColumn : Song → Cell → Channel → Played
 noteColumn m cell ch =
-    pick (eqb (cell .note) 254) (unstarted (noteCut ch))
-    (pick (not (eqb (cell .note) 255))
+    pick (eqb (cell .note) 0xFE) (unstarted (noteCut ch))
+    (pick (not (eqb (cell .note) 0xFF))
     (pick (inRange m ch) (startNote (m .«amiga_limits») (cell .note) (pitchOf (cell .note) (current m ch)) (current m ch) ch) (unstarted ch))
     (pick (porta ch && not (eqb (ch .«last_note») 0))
     (unstarted (pick (inRange m ch) (slideBack (m .«amiga_limits») (current m ch) ch) ch))
@@ -169,7 +169,7 @@ noteColumn m cell ch =
 
 -- if cell.volume != 0xFF { let v = clamp_pcm_volume(cell.volume as u16); .. }
 unfoldable pub volumeColumn : ℕ → Cell → Channel → Channel
-volumeColumn g cell ch = pick (not (eqb (cell .volume) 255)) (storeVolume ch («clamp_pcm_volume» (cell .volume)) g) ch
+volumeColumn g cell ch = pick (not (eqb (cell .volume) 0xFF)) (storeVolume ch («clamp_pcm_volume» (cell .volume)) g) ch
 
 -- and a note that started stays one
 unfoldable pub volumeAfterNote : ℕ → Cell → Played → Played
@@ -206,11 +206,11 @@ pub record Tick : Type 0 where
 -- cmd::D_VOL_SLIDE, with x and y the nibbles of info
 unfoldable pub volumeSlide : Bool → ℕ → ℕ → Channel → Channel
 volumeSlide fast x y ch =
-    pick (eqb x 15 && eqb y 15) («ch_volume» ch («clamp_pcm_volume» (ch .volume + 15)))
-    (pick (eqb x 15 && eqb y 0) («ch_volume» ch («clamp_pcm_volume» (ch .volume + 15)))
-    (pick (eqb x 0 && eqb y 15) («ch_volume» ch (ch .volume - 15))
-    (pick (eqb x 15 && not (eqb y 0)) («ch_volume» ch (ch .volume - y))
-    (pick (eqb y 15 && not (eqb x 0)) («ch_volume» ch («clamp_pcm_volume» (ch .volume + x)))
+    pick (eqb x 0xF && eqb y 0xF) («ch_volume» ch («clamp_pcm_volume» (ch .volume + 15)))
+    (pick (eqb x 0xF && eqb y 0) («ch_volume» ch («clamp_pcm_volume» (ch .volume + 15)))
+    (pick (eqb x 0 && eqb y 0xF) («ch_volume» ch (ch .volume - 15))
+    (pick (eqb x 0xF && not (eqb y 0)) («ch_volume» ch (ch .volume - y))
+    (pick (eqb y 0xF && not (eqb x 0)) («ch_volume» ch («clamp_pcm_volume» (ch .volume + x)))
     (pick fast («apply_dxy_tick0_fast_slide» ch x y)
     ch)))))
 
