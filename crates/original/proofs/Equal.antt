@@ -45,7 +45,8 @@ pub walk-equal : (t : Tables) (n : ℕ) (s : State) → tablesRule t ≡ 0 → s
 walk-equal t n s nine eleven bytes shaped =
     turns-equal t (sized (t .orders) (t .cells) (t .samples) nine) bytes n s shaped (rule-sound s eleven shaped)
 
--- Records: that of a row that there is is what is read off the Rust's state once it has entered the row
+-- Records: where there is a pattern to enter, a row's record is what is read off the Rust's state once it has entered the row; here
+-- too the state may have ended before
 pub record-equal : (t : Tables) (s : State) → tablesRule t ≡ 0 → stateRule s ≡ 0 → ByteTables t → Shaped s → patternThere t (s .path) ≡ true
     → recordRead (songOf t (s .switches)) (s .path .clock .rate) (s .path .clock .start) («enter_row» (songOf t (s .switches)) (stateMap s)) ≡ recordOf t (s .switches) (rowFrom t s) (voicesOf s)
 record-equal t s nine eleven bytes shaped there =

@@ -32,7 +32,7 @@ pub record AsOriginal (t : Tables) (s : State) (n : ℕ) (before after : List �
   pub output : after ≡ inFront (readFor t s n .records) before
   -- it counts these
   pub rows : r .rows ≡ length (readFor t s n .records)
-  -- it says 'ended' exactly where the Rust has
+  -- it says 'ended' exactly where the Rust's state says so behind these rows
   pub ended : r .ended ≡ turnsFrom t s n .ended
   -- what the map leaves out: the switches and the rate are kept, and the card stands behind the rows
   pub switches : r .state .switches ≡ s .switches
