@@ -3,5 +3,6 @@ pub mod Cells
 pub mod Bytes
 pub mod Together
 pub mod Views
+pub mod MadeCalls
 pub mod Theorem
 pub mod Example

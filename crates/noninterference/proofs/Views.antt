@@ -24,6 +24,11 @@ use Rattle.noninterference.proofs.Dealt.{grant, gift, share, shares}
 use Rattle.noninterference.proofs.Cells.{steer-alike}
 use Rattle.noninterference.proofs.Together.{pick-two, Alike, Seen, behind-alike, records-alike, head-seen, strike-seen, channel-seen}
 
+-- Open's state has 32 channels
+pub opened-channels : (u : Tune) → Lent u → length (opened u .channels) ≡ 32
+unfolding freshState
+opened-channels u l = length-map (u .opening .channels) openedChannel ∙ l .channels
+
 map-drop : {X Z : Type 0} (f : X → Z) (n : ℕ) (l : List X) → map f (drop n l) ≡ drop n (map f l)
 map-drop f zero l = refl
 map-drop f (suc n) [] = refl
@@ -52,12 +57,8 @@ module _ (chosen : ℕ → Bool) (A B : Tune) (whole : length (A .tables .cells)
   abbrev first : Voices
   first = voicesOf (opened A)
 
-  first-count : length (first .channels) ≡ 32
-  unfolding freshState
-  first-count = length-map (A .opening .channels) openedChannel ∙ l .channels
-
   start-alike : Alike chosen first first
-  start-alike = record { first-count = first-count; second-count = first-count; volume = refl; channel = λ k h g. refl }
+  start-alike = record { first-count = opened-channels A l; second-count = opened-channels A l; volume = refl; channel = λ k h g. refl }
 
   -- the channel machines after n turns
   state-alike : (n : ℕ) (k : ℕ) → k < 32 → T (chosen k) → channelOf k (machineState A n) ≡ channelOf k (machineState B n)

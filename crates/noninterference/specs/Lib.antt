@@ -2,3 +2,4 @@ pub mod Revoiced
 pub mod Calls
 pub mod Machines
 pub mod Kept
+pub mod Made
