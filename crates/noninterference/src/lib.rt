@@ -1,1 +1,2 @@
-// Demand 3: a channel is untouched when the others are re-voiced. No code of its own.
+// Demand 3: a channel is untouched when the others are re-voiced.
+pub mod witness;
