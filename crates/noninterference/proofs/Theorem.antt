@@ -15,7 +15,7 @@ use Rattle.section.specs.Open.{openRule, openOf}
 use Rattle.section.specs.Section.{Answer}
 use Rattle.section.specs.Typed.{ByteTables, ShapedOpening}
 use Rattle.section.proofs.Accepted.{open-accepted}
-use Rattle.noninterference.specs.Revoiced.{Revoiced, Lent}
+use Rattle.noninterference.specs.Revoiced.{Lent}
 use Rattle.noninterference.specs.Calls.{Call, answersOf, sizesGiven}
 use Rattle.noninterference.specs.Machines.{opened}
 use Rattle.noninterference.specs.Kept.{Same, Faithful, ChannelsKept, ChannelKept}

@@ -13,10 +13,8 @@ use Rattle.tune.specs.Sizes.{patternCount}
 use Rattle.tune.specs.Cells.{rowCells}
 use Rattle.row_path.specs.Leave.{lengthOf}
 use Rattle.row_path.specs.declared.machine.Entered.{Entered}
-use Rattle.channel.specs.Opening.{openedChannel}
 use Rattle.channel.specs.Row.{channelEntered}
 use Rattle.channel.specs.Channels.{enteredAt, volumeAfter, rowEntered, rowVisited}
-use Rattle.channel.specs.declared.state.Channel.{Channel}
 use Rattle.channel.specs.declared.state.Played.{Played}
 use Rattle.channel.specs.declared.state.Switches.{Switches}
 use Rattle.channel.specs.declared.channels.Rowed.{Rowed}
@@ -28,13 +26,9 @@ use Rattle.section.specs.Records.{channelBytes}
 use Rattle.section.specs.Machines.{Voices, rowPlayed, recordOf, voicesAfter, recordsOf, voicesBehind}
 use Rattle.section.proofs.Sizes.{played-count, strikes-below}
 use Rattle.noninterference.specs.Revoiced.{Revoiced}
-use Rattle.noninterference.specs.Kept.{headIn, strikeIn, channelIn}
+use Rattle.noninterference.specs.Kept.{headIn, strikeIn, channelIn, missing}
 use Rattle.noninterference.proofs.Cells.{own-cells, volume-cells}
 use Rattle.noninterference.proofs.Bytes.{front, head-is, strike-is, channel-is}
-
--- what stands for a channel that isn't there
-abbrev pub missing : Channel
-missing = openedChannel (record { pan = 0; muted = false; «right_bank» = false; adlib = false })
 
 -- 32 channels on both sides, the chosen ones equal, and one global volume
 pub record Alike (chosen : ℕ → Bool) (x y : Voices) : Type 0 where

@@ -7,7 +7,6 @@ use lib.Dec.{T, eqb}
 use lib.ListN.{length, getD, take, drop}
 use Rattle.laws.specs.Masks.{bitOf}
 use Rattle.tune.specs.Numbers.{littleAt}
-use Rattle.tune.specs.declared.opening.ChannelOpening.{ChannelOpening}
 use Rattle.row_path.specs.Walk.{rowsLeft}
 use Rattle.channel.specs.Opening.{openedChannel}
 use Rattle.channel.specs.declared.state.Channel.{Channel}
@@ -30,9 +29,13 @@ strikeIn k r = bitOf (littleAt 4 r 16) k
 unfoldable pub channelIn : ℕ → List ℕ → List ℕ
 channelIn k r = take channelSize (drop (headSize + channelSize * k) r)
 
+-- what stands for a channel that isn't there
+abbrev pub missing : Channel
+missing = openedChannel (record { pan = 0; muted = false; «right_bank» = false; adlib = false })
+
 -- channel k of a state
 unfoldable pub channelOf : ℕ → State → Channel
-channelOf k s = getD (s .channels) k (openedChannel (record { pan = 0; muted = false; «right_bank» = false; adlib = false }))
+channelOf k s = getD (s .channels) k missing
 
 -- the same row counts, endings and refusals, the same row heads (of the strike masks only bit k), and the same channel k
 -- in records and state, for each chosen k; the path's part of the state, which keeps the channels' last S infos, is the same

@@ -2,7 +2,6 @@
 use Prim.Native.Nat.{ℕ}
 use mathlib.Core.List.{List}
 use Rattle.row_path.specs.Walk.{Walk, pathWalk}
-use Rattle.channel.specs.declared.state.Switches.{Switches}
 use Rattle.section.specs.declared.state.State.{State}
 use Rattle.section.specs.Tables.{Tune}
 use Rattle.section.specs.Open.{freshState}

@@ -3,7 +3,7 @@ use Prim.Native.Nat.{ℕ, _<_, _≤_}
 use mathlib.Core.Path.{_≡_}
 use mathlib.Core.Bool.{Bool, not, _||_}
 use lib.Dec.{T, eqb}
-use lib.ListN.{length, getD}
+use lib.ListN.{length}
 use Rattle.tune.specs.Sizes.{patternCount}
 use Rattle.tune.specs.Cells.{cellAt}
 use Rattle.row_path.specs.Sound.{Bytes}

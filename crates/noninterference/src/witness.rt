@@ -1,6 +1,6 @@
 // Demand 3 of calls that this makes: it can be drawn only from what `open` and `section` promise.
 ghost use mathlib.Core.Path.{_≡_};
-ghost use mathlib.Core.List.{List, [], _∷_};
+ghost use mathlib.Core.List.{[], _∷_};
 ghost use Rattle.section.specs.Tables.{Tune, lent};
 ghost use Rattle.section.specs.Open.{openOf};
 ghost use Rattle.section.specs.Section.{Refused, sectioned};
