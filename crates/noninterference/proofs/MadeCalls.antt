@@ -14,7 +14,7 @@ use Rattle.section.specs.Walk.{walk}
 use Rattle.section.specs.Section.{Answer, Refused, Gave, sectionRule, gave, answerBy, sectionOf, sectioned, joined, outputAfter}
 use Rattle.section.proofs.Sizes.{walk-channels, records-length}
 use Rattle.noninterference.specs.Calls.{stateOf, answersOf}
-use Rattle.noninterference.specs.Made.{Made, callOf, Promised, cut, readBack}
+use Rattle.noninterference.specs.Made.{Made, callOf, answerTo, Promised, cut, readBack}
 
 -- records of 536 bytes, joined, are cut where they were joined
 cut-joined : (rs : List (List ℕ)) (rest : List ℕ) → ((k : ℕ) → k < length rs → length (getD rs k []) ≡ recordSize) → cut (length rs) (joined rs ++ rest) ≡ rs
@@ -48,8 +48,8 @@ module _ (t : Tables) (s : State) (h : length (s .channels) ≡ 32) (n : ℕ) wh
 
 module _ (t : Tables) where
   -- one call, from a state of 32 channels
-  read-is : (s : State) (m : Made) → length (s .channels) ≡ 32 → m .answer ≡ sectioned (sectionOf t s (m .size) (length (m .before)))
-      → m .after ≡ outputAfter (m .before) (sectionOf t s (m .size) (length (m .before))) → readBack m ≡ sectionOf t s (m .size) (length (m .before))
+  read-is : (s : State) (m : Made) → length (s .channels) ≡ 32 → m .answer ≡ sectioned (answerTo t s m)
+      → m .after ≡ outputAfter (m .before) (answerTo t s m) → readBack m ≡ answerTo t s m
   unfolding sectionOf
   read-is s m h answer written =
       ap readBack (λ i. record { size = m .size; before = m .before; after = written i; answer = answer i })
@@ -59,10 +59,10 @@ module _ (t : Tables) where
   unfolding sectionOf
   channels-still s n room h = channels-by t s h n (sectionRule t s n room)
 
-  after-call : (s : State) (m : Made) → m .answer ≡ sectioned (sectionOf t s (m .size) (length (m .before))) → m .answer .state ≡ stateOf (sectionOf t s (m .size) (length (m .before)))
-  after-call s m answer = ap (λ (r : Sectioned). r .state) answer ∙ state-is (sectionOf t s (m .size) (length (m .before)))
+  after-call : (s : State) (m : Made) → m .answer ≡ sectioned (answerTo t s m) → m .answer .state ≡ stateOf (answerTo t s m)
+  after-call s m answer = ap (λ (r : Sectioned). r .state) answer ∙ state-is (answerTo t s m)
 
-  still : (s : State) (m : Made) → length (s .channels) ≡ 32 → m .answer ≡ sectioned (sectionOf t s (m .size) (length (m .before))) → length (m .answer .state .channels) ≡ 32
+  still : (s : State) (m : Made) → length (s .channels) ≡ 32 → m .answer ≡ sectioned (answerTo t s m) → length (m .answer .state .channels) ≡ 32
   still s m h answer = ap (λ (q : State). length (q .channels)) (after-call s m answer) ∙ channels-still s (m .size) (length (m .before)) h
 
   -- what is read off the calls are their answers

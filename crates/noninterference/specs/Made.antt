@@ -28,13 +28,15 @@ pub record Made : Type 0 where
 abbrev pub callOf : Made → Call
 callOf m = record { size = m .size; room = length (m .before) }
 
+-- what Section answers to it on a state (01, 'Section')
+abbrev pub answerTo : Tables → State → Made → Answer
+answerTo t s m = sectionOf t s (m .size) (length (m .before))
+
 -- each keeps what `section` promises (`answer`, `written`), on the state that the last one gave back (demand 3)
 unfoldable pub Promised : Tables → State → List Made → Type 0
 Promised t s [] = Unit
 Promised t s (m ∷ ms) =
-    (m .answer ≡ sectioned (sectionOf t s (m .size) (length (m .before))))
-    × (m .after ≡ outputAfter (m .before) (sectionOf t s (m .size) (length (m .before))))
-    × Promised t (m .answer .state) ms
+    (m .answer ≡ sectioned (answerTo t s m)) × (m .after ≡ outputAfter (m .before) (answerTo t s m)) × Promised t (m .answer .state) ms
 
 -- o is what `open` promises of a tune (`answer`, `typed`) and refuses nothing; the calls are made from its state (01, 'Open')
 pub record MadeOn (u : Tune) (o : Opened) (ms : List Made) : Type 0 where
@@ -54,13 +56,14 @@ readBack m =
     pick (eqb (m .answer .refusal) 0) (Gave (cut (m .answer .rows) (m .after)) (m .answer .ended) (m .answer .state))
     (Refused (m .answer .refusal) (m .answer .state))
 
--- what was read off is the machines'; a refused call says 0 rows, not ended (01, 'Why a call says no'), and in each output
--- the bytes behind the last record written are unchanged (01, 'Section')
+-- what is read off is the machines'; a refused call gives 0 rows, not ended, and the bytes behind the last record written
+-- are unchanged (01, 'Section')
 pub record MadeFaithful (u : Tune) (ms : List Made) : Type 0 where
   pub machines : Faithful u (map callOf ms) (map readBack ms)
   pub answers : map (λ m. m .answer) ms ≡ map (λ m. sectioned (readBack m)) ms
   pub outputs : map (λ m. m .after) ms ≡ map (λ m. outputAfter (m .before) (readBack m)) ms
 
+-- what the calls on two tunes have in common, and what each tune's are (demand 3)
 pub record MadeKept (chosen : ℕ → Bool) (A B : Tune) (xs ys : List Made) : Type 0 where
   pub same : Same chosen (map readBack xs) (map readBack ys)
   pub first : MadeFaithful A xs

@@ -1,5 +1,6 @@
 // Demand 3 of calls that this makes: it can be drawn only from what `open` and `section` promise.
 ghost use mathlib.Core.Path.{_≡_};
+ghost use mathlib.Core.Logic.{_≢_};
 ghost use mathlib.Core.List.{[], _∷_};
 ghost use Rattle.section.specs.Tables.{Tune, lent};
 ghost use Rattle.section.specs.Open.{openOf};
@@ -31,7 +32,9 @@ pub fn two_calls(
     next_output: &mut [u8],
 ) -> TwoCalls
     ensures opens { λ r. ⌜ r .opened ≡ openOf (lent (now (orders .entry)) (now (cells .entry)) (now (samples .entry))) o ⌝ }
-    ensures refused { λ r. ⌜ ((r .opened .refusal ≡ 0 → ⊥) → let none : Sectioned = sectioned (Refused (r .opened .refusal) (r .opened .state)) in (r .first ≡ none) × (r .second ≡ none) × (now (output .exit) ≡ now (output .entry)) × (now («next_output» .exit) ≡ now («next_output» .entry))) ⌝ }
+    ensures refused { λ r. ⌜ (r .opened .refusal ≢ 0
+        → let none : Sectioned = sectioned (Refused (r .opened .refusal) (r .opened .state)) in
+        (r .first ≡ none) × (r .second ≡ none) × (now (output .exit) ≡ now (output .entry)) × (now («next_output» .exit) ≡ now («next_output» .entry))) ⌝ }
     ensures kept { λ r. ⌜ (r .opened .refusal ≡ 0
         → let u : Tune = record { tables = lent (now (orders .entry)) (now (cells .entry)) (now (samples .entry)); opening = o } in
         let first : Made = record { size = size; before = now (output .entry); after = now (output .exit); answer = r .first } in
