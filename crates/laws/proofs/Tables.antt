@@ -3,14 +3,14 @@
 use mathlib.Core.Path.{_≡_, _∙_, refl, ap, sym}
 use mathlib.Core.Logic.{inl, inr}
 use mathlib.Core.Bool.{Bool, true, false, _&&_, _||_}
-use mathlib.Core.List.{List, [], _∷_}
+use mathlib.Core.List.{List, [], _∷_, _++_}
 use Prim.Native.Nat.{ℕ, zero, suc, _+_, _-_, _≤_, _<_}
 use native.Mathlib.Nat.{add-zero, zero-add, add-suc, suc-add, le-of-suc-le-suc, not-suc-le-zero, eq-or-lt-of-le}
 use native.Mathlib.Numerals.{add-one}
 use native.Mathlib.Omega.{arith}
 use lib.ListN.{length, getD, drop}
 use lib.Seq.{drop-cons, drop-length}
-use Rattle.laws.specs.Entries.{every, some}
+use Rattle.laws.specs.Entries.{every, some, pieces, tabulate}
 use Rattle.laws.proofs.Picks.{and-true}
 
 from : {X : Type 0} (f : ℕ → X → Bool) (xs : List X) (d : X) (i : ℕ) → every f i xs ≡ true → (k : ℕ) → k < length xs → f (i + k) (getD xs k d) ≡ true
@@ -23,6 +23,19 @@ from f (x ∷ xs) d i t (suc k) h =
 -- a test that passes everywhere passes at index k
 pub at : {X : Type 0} (f : ℕ → X → Bool) (xs : List X) (d : X) → every f 0 xs ≡ true → (k : ℕ) → k < length xs → f k (getD xs k d) ≡ true
 at f xs d t k h = ap (λ (m : ℕ). f m (getD xs k d)) (sym (zero-add k)) ∙ from f xs d 0 t k h
+
+-- a test that passes of each of the entries that are made passes everywhere
+module _ {X : Type 0} (f : X → Bool) where
+  every-more : (xs : List X) (x : X) (i : ℕ) → every (λ _ y. f y) i xs ≡ true → f x ≡ true → every (λ _ y. f y) i (xs ++ (x ∷ [])) ≡ true
+  every-more [] x i e g = rw g
+  every-more (y ∷ ys) x i e g =
+      let b = and-true (f y) (every (λ _ y. f y) (suc i) ys) e in
+      rw (b .0) (every-more ys x (suc i) (b .1) g)
+
+  pub every-tabulated : (g : ℕ → X) → ((k : ℕ) → f (g k) ≡ true) → (n i : ℕ) → every (λ _ y. f y) i (tabulate n g) ≡ true
+  unfolding pieces
+  every-tabulated g h zero i = refl
+  every-tabulated g h (suc n) i = every-more (tabulate n g) (g n) i (every-tabulated g h n i) (h n)
 
 -- a loop that tests each entry in turn: the tests from index i on decide
 module _ {X : Type 0} (f : ℕ → X → Bool) (l : List X) (i : ℕ) where

@@ -1,8 +1,8 @@
 -- The calls' answers and bytes, from what the functions below them give. Assumes nothing.
-use Prim.Native.Nat.{ℕ, zero, suc}
+use Prim.Native.Nat.{ℕ, zero, suc, _^_, _<_}
 use mathlib.Core.Path.{_≡_, refl, sym, ap, _∙_}
 use mathlib.Core.Bool.{Bool, true, false}
-use mathlib.Core.List.{List}
+use mathlib.Core.List.{List, [], _∷_}
 use native.Mathlib.Nat.{zero-add}
 use native.Mathlib.Omega.{arith}
 use borrow.Author.Tests.{eq-eqb, ne-eqb}
@@ -10,11 +10,12 @@ use lib.Dec.{eqb}
 use lib.ListN.{length}
 use Rattle.laws.specs.Choice.{pick}
 use Rattle.laws.specs.Refusals.{Said, said}
+use Rattle.laws.proofs.Pieces.{length-pieces}
 use Rattle.tune.specs.Opening.{blankOpening}
 use Rattle.tune.specs.declared.opening.Opening.{Opening}
 use Rattle.s3m.specs.Layout.{countsOf}
 use Rattle.s3m.specs.Refusals.{measureRule}
-use Rattle.s3m.specs.Opening.{openingOf}
+use Rattle.s3m.specs.Opening.{channelAt, openingOf}
 use Rattle.s3m.specs.Answers.{measured, measuredSays, refusalOf, reading, ordersAfter, samplesAfter, cellsAfter}
 use Rattle.s3m.specs.declared.header.Counts.{Counts}
 use Rattle.s3m.specs.declared.header.Measured.{Measured}
@@ -31,7 +32,9 @@ use Rattle.s3m.specs.declared.ReadAnswer.the-variants as Read
 use Rattle.section.specs.Section as section
 use Rattle.lomqashe.specs.Openings.{openingBytes, openingAt}
 use Rattle.lomqashe.specs.States.{stateBytes, stateOf}
+use Rattle.lomqashe.specs.Typed.{TypedOpening}
 use Rattle.lomqashe.specs.Answers.{answerOf, wrong, countBytes, measureRefusal, countsAfter, readRefusal, openingBy, openingAfter, openRefusal, stateOpened, sectionBy, rowsAndEnded, sectionAnswer, stateAfter, recordsAfter}
+use Rattle.lomqashe.proofs.OpeningKept.{opening-kept}
 
 module _ {A : Type 0} (n m : ℕ) (x y : A) where
   same-length : n ≡ m → pick (eqb n m) x y ≡ x
@@ -108,6 +111,17 @@ read-opening file rate rule opening g e = ap (λ (g : Reading). openingBy (g .an
     by-test : (b : Bool) → openingBy (pick b done not-done .answer) (pick b done not-done .opening) opening ≡ pick b (openingBytes (openingOf file rate)) opening
     by-test true = refl
     by-test false = refl
+
+-- the bytes that it leaves say the opening values that it gives
+opening-typed : (file : List ℕ) (rate : ℕ) → rate < 2 ^ 32 → TypedOpening (openingOf file rate)
+unfolding openingOf
+opening-typed file rate h = record { rate = h; count = length-pieces (λ k. channelAt file k ∷ []) 1 (λ k. refl) 32 }
+
+pub opening-said : (file : List ℕ) (rate rule : ℕ) (opening : List ℕ) {after : List ℕ} → rate < 2 ^ 32 → after ≡ openingAfter file rate rule opening → rule ≡ 0 → openingAt after ≡ openingOf file rate
+unfolding openingAfter
+opening-said file rate rule opening h w z =
+    let bytes : openingAfter file rate rule opening ≡ openingBytes (openingOf file rate) = rw z in
+    ap openingAt (w ∙ bytes) ∙ opening-kept (openingOf file rate) (opening-typed file rate h)
 
 -- Open
 module _ (t : Tables) (opening state : List ℕ) where

@@ -7,6 +7,7 @@ pub mod Joined
 pub mod Lengths
 pub mod Nans
 pub mod OpeningKept
+pub mod ReadOpens
 pub mod Reread
 pub mod Rows
 pub mod StateKept

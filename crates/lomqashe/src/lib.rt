@@ -10,6 +10,7 @@ pub mod state;
 ghost use mathlib.Core.Path.{_≡_};
 ghost use Prim.Native.Nat.{_+_, _*_, _<_};
 ghost use lib.ListN.{length};
+ghost use Rattle.s3m.specs.Opening.{openingOf};
 ghost use Rattle.s3m.specs.Answers.{readSays, ordersAfter, samplesAfter, cellsAfter};
 ghost use Rattle.section.specs.Tables.{lent};
 ghost use Rattle.tune.specs.Numbers.{flag};
@@ -124,6 +125,7 @@ pub extern "C" fn lomqashe_read(
     ensures samples { λ _. ⌜ now (samples .exit) ≡ samplesAfter (now (file .entry)) (readRefusal (now (file .entry)) (now (orders .entry)) (now (samples .entry)) (now (cells .entry)) (now (opening .entry))) (now (samples .entry)) ⌝ }
     ensures cells { λ _. ⌜ now (cells .exit) ≡ cellsAfter (now (file .entry)) (readRefusal (now (file .entry)) (now (orders .entry)) (now (samples .entry)) (now (cells .entry)) (now (opening .entry))) (now (cells .entry)) ⌝ }
     ensures opening { λ _. ⌜ now (opening .exit) ≡ openingAfter (now (file .entry)) rate (readRefusal (now (file .entry)) (now (orders .entry)) (now (samples .entry)) (now (cells .entry)) (now (opening .entry))) (now (opening .entry)) ⌝ }
+    ensures kept { λ _. ⌜ (readRefusal (now (file .entry)) (now (orders .entry)) (now (samples .entry)) (now (cells .entry)) (now (opening .entry)) ≡ 0 → openingAt (now (opening .exit)) ≡ openingOf (now (file .entry)) rate) ⌝ }
 {
     if opening.len() != 144 {
         return WRONG;

@@ -7,12 +7,13 @@ use Prim.Native.Nat.{ℕ, _+_, _*_, _≤_, _<_}
 use native.Mathlib.Omega.{arith}
 use native.Mathlib.Nat.{le-trans}
 use lib.Dec.{eqb, ltb}
-use lib.ListN.{length}
-use borrow.Author.Tests.{ltb-false, eqb-true, not-false}
+use lib.ListN.{length, getD}
+use borrow.Author.Tests.{ltb-false, eqb-true, eqb-false, not-false}
 use Rattle.laws.specs.Choice.{pick}
 use Rattle.laws.specs.Refusals.{Said, said}
 use Rattle.laws.proofs.Picks.{and-true, or-false}
 use Rattle.laws.proofs.Rules.{sound, kept}
+use Rattle.tune.specs.Opening.{levelsBroken}
 use Rattle.s3m.specs.Layout.{countsOf, instrumentsAt, pansAt, hasPans, listsEnd}
 use Rattle.s3m.specs.Instruments.{instrumentsPast}
 use Rattle.s3m.specs.declared.header.Counts.{Counts}
@@ -23,10 +24,12 @@ use Rattle.s3m.specs.Refusals.{rule1, rule2, rule3, rule4, rule5, rule6,
 
 pub record Accepted (s : List ℕ) : Type 0 where
   pub long : 96 ≤ length s
+  pub orders-least : 1 ≤ countsOf s .orders
   pub orders-most : countsOf s .orders ≤ 255
   pub instruments-most : countsOf s .instruments ≤ 99
   pub patterns-most : countsOf s .patterns ≤ 100
   pub lists : listsEnd s (countsOf s) ≤ length s
+  pub levels : levelsBroken (getD s 49 0) (getD s 50 0) (getD s 48 0) ≡ false
 
 pub accepted : (s : List ℕ) → measureRule s ≡ 0 → Accepted s
 unfolding measureRule headerRule
@@ -41,11 +44,16 @@ accepted s e =
     let orders = or-false (eqb (c .orders) 0) (ltb 255 (c .orders)) (instruments .0) in
     record {
       long = ltb-false (length s) 96 (kept 0 _ (one .0));
+      orders-least = least (c .orders) (eqb-false (c .orders) 0 (orders .0));
       orders-most = ltb-false 255 (c .orders) (orders .1);
       instruments-most = ltb-false 99 (c .instruments) (instruments .1);
       patterns-most = ltb-false 100 (c .patterns) (patterns .1);
       lists = ltb-false (length s) (listsEnd s c) (kept 3 _ (four .0));
+      levels = kept 4 _ (four .1);
     }
+  where
+    least : (n : ℕ) → (n ≡ 0 → ⊥) → 1 ≤ n
+    least n h = omega arith
 
 -- the same of counts that were read, with where the two lists of pointers end
 pub record Listed (s : List ℕ) (c : Counts) : Type 0 where
