@@ -108,12 +108,23 @@ pub fn act(c: Channel, table: &[u32], w: Switches) -> Channel
     let command = c.command;
     match command {
         4 => {
-            d.volume = slide_volume(c.volume, high_nibble(c.info), low_nibble(c.info), w.fast_slides);
+            d.volume = slide_volume(
+                c.volume,
+                high_nibble(c.info),
+                low_nibble(c.info),
+                w.fast_slides,
+            );
             d
         }
         5 => slide_finely(c, false, w.amiga_limits),
         6 => slide_finely(c, true, w.amiga_limits),
-        19 => extended(c, high_nibble(c.info), low_nibble(c.info), table, w.amiga_limits),
+        19 => extended(
+            c,
+            high_nibble(c.info),
+            low_nibble(c.info),
+            table,
+            w.amiga_limits,
+        ),
         24 => {
             d.pan = set_pan(c.info);
             d

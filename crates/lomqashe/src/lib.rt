@@ -47,6 +47,12 @@ fn refused(rule: u8) -> u32
     rule as u32 * 0x100_0000
 }
 
+fn done(n: u8) -> u32
+    ensures { λ r. ⌜ r ≡ answerOf 0 n ⌝ }
+{
+    n as u32
+}
+
 // The low 32 bits of each number.
 fn count_bytes(c: Counts) -> [u8; 12]
     ensures { λ r. ⌜ r ≡ countBytes c ⌝ }
@@ -206,7 +212,7 @@ pub extern "C" fn lomqashe_strikes(row: &[u8], out: &mut [u8]) -> u32
     ensures written { λ r. ⌜ StrikesNumber (now (row .entry)) (now (out .entry)) (now (out .exit)) r ⌝ }
 {
     match strikes(row, out) {
-        Answer::Done(n) => n as u32,
+        Answer::Done(channels) => done(channels),
         Answer::Refused(rule) => refused(rule),
     }
 }
@@ -218,7 +224,7 @@ pub extern "C" fn lomqashe_line(row: &[u8], out: &mut [u8]) -> u32
     ensures written { λ _. ⌜ now (out .exit) ≡ lineOutput (now (row .entry)) (now (out .entry)) ⌝ }
 {
     match line(row, out) {
-        Answer::Done(n) => n as u32,
-        Answer::Refused(rule) => refused(rule),
+        Answer::Done(bytes) => done(bytes),
+        Answer::Refused(number) => refused(number),
     }
 }

@@ -44,10 +44,10 @@ filled-sized s e =
     let a = accepted s e in
     let n = countsOf s in
     rw (fits n _ _ _
-      (length-bytes s 96 (n .orders))
-      (length-pieces (λ k. patternCells s (pointerAt s (patternsAt n) k)) 10240 (λ k. length-pattern s (pointerAt s (patternsAt n) k)) (n .patterns))
-      (length-pieces (λ k. instrumentSample s (pointerAt s (instrumentsAt n) k)) 20 (λ k. length-instrument s (pointerAt s (instrumentsAt n) k)) (n .instruments))
-      (a .orders-least) (a .orders-most) (a .patterns-most) (a .instruments-most))
+    (length-bytes s 96 (n .orders))
+    (length-pieces (λ k. patternCells s (pointerAt s (patternsAt n) k)) 10240 (λ k. length-pattern s (pointerAt s (patternsAt n) k)) (n .patterns))
+    (length-pieces (λ k. instrumentSample s (pointerAt s (instrumentsAt n) k)) 20 (λ k. length-instrument s (pointerAt s (instrumentsAt n) k)) (n .instruments))
+    (a .orders-least) (a .orders-most) (a .patterns-most) (a .instruments-most))
 
 pan-kept : (setting : ℕ) (pans : Bool) (byte : ℕ) → leb (panOf setting pans byte) 15 ≡ true
 pan-kept setting pans byte =
@@ -59,5 +59,5 @@ pub opening-ranged : (s : List ℕ) (rate : ℕ) → measureRule s ≡ 0 → rul
 unfolding rule10 openingOf channelOpening
 opening-ranged s rate e =
     let pans : pansKept (openingOf s rate .channels) ≡ true =
-        every-tabulated (λ c. leb (c .pan) 15) (channelAt s) (λ k. pan-kept (getD s (64 + k) 0 % 128) (hasPans s) (getD s (pansAt (countsOf s) + k) 0)) 32 0 in
+    every-tabulated (λ c. leb (c .pan) 15) (channelAt s) (λ k. pan-kept (getD s (64 + k) 0 % 128) (hasPans s) (getD s (pansAt (countsOf s) + k) 0)) 32 0 in
     rw (accepted s e .levels, pans)
