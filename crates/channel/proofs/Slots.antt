@@ -1,11 +1,10 @@
 -- A memory slot is one of the 32. Assumes nothing.
 use Prim.Native.Nat.{ℕ, _<_, _≤_}
 use mathlib.Core.Path.{_≡_}
-use mathlib.Core.Bool.{Bool, true, _&&_, not}
+use mathlib.Core.Bool.{true, _&&_, not}
 use native.Mathlib.Omega.{arith}
 use borrow.Author.Tests.{leb-true}
 use lib.Dec.{eqb, leb}
-use Rattle.laws.specs.Choice.{pick}
 use Rattle.laws.proofs.Picks.{choice, and-true}
 use Rattle.channel.specs.Memory.{hasMemory, slotOf}
 

@@ -1,9 +1,8 @@
 -- A row's visit, channel by channel: held, or entered. Assumes nothing.
-use Prim.Native.Nat.{ℕ, zero, suc, _+_}
+use Prim.Native.Nat.{ℕ, suc, _+_}
 use mathlib.Core.Path.{_≡_, refl, sym, ap, _∙_}
 use mathlib.Core.Bool.{Bool, true, false, _&&_, _||_}
 use mathlib.Core.List.{List, [], _∷_}
-use lib.Dec.{eqb}
 use lib.ListN.{getD}
 use Rattle.laws.specs.Choice.{pick}
 use Rattle.laws.specs.Entries.{mapFrom}
@@ -14,7 +13,6 @@ use Rattle.tune.specs.declared.cells.Cell.{Cell}
 use Rattle.channel.specs.declared.state.Channel.{Channel}
 use Rattle.channel.specs.declared.state.Played.{Played}
 use Rattle.channel.specs.declared.state.Switches.{Switches}
-use Rattle.channel.specs.declared.channels.Rowed.{Rowed}
 use Rattle.channel.specs.Play.{unstruck}
 use Rattle.channel.specs.Row.{channelEntered}
 use Rattle.channel.specs.Rest.{atRest, quiet}

@@ -1,6 +1,5 @@
 -- A channel as Open gives it (01, 'Open'): the Rust's `Default`, with its opening values. Assumes nothing.
-use Prim.Native.Nat.{ℕ}
-use mathlib.Core.Bool.{true, false}
+use mathlib.Core.Bool.{false}
 use lib.ListN.{replicate}
 use Rattle.tune.specs.declared.opening.ChannelOpening.{ChannelOpening}
 use Rattle.channel.specs.declared.state.Channel.{Channel}

@@ -7,7 +7,6 @@ ghost use Rattle.laws.specs.Masks.{bitAt};
 ghost use Rattle.channel.specs.Channels.{waits, rowEntered};
 use crate::row::enter_channel;
 use crate::state::Channel;
-use crate::state::Played;
 use crate::state::Switches;
 use pitch::periods::period_table;
 use tune::cells::Cell;

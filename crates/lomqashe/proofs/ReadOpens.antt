@@ -1,12 +1,10 @@
 -- What Read accepts, Open accepts but for the rate, and opens as Read read it. Assumes nothing.
 use Prim.Native.Nat.{ℕ}
-use mathlib.Core.Path.{_≡_, refl, sym, ap, _∙_}
+use mathlib.Core.Path.{_≡_, ap, _∙_}
 use mathlib.Core.List.{List}
-use lib.ListN.{length}
 use Rattle.laws.specs.Refusals.{refuse}
 use Rattle.laws.proofs.Rules.{sound, next}
 use Rattle.tune.specs.Opening.{rateBroken}
-use Rattle.tune.specs.declared.opening.Opening.{Opening}
 use Rattle.s3m.specs.Opening.{openingOf}
 use Rattle.s3m.specs.Refusals.{measureRule, readRule}
 use Rattle.s3m.specs.Answers.{refusalOf, ordersAfter, samplesAfter, cellsAfter}

@@ -1,6 +1,6 @@
 -- Over one list of rows the chosen channels of re-voiced tunes stay the same. Assumes nothing.
-use Prim.Native.Nat.{ℕ, _*_, _^_, _<_}
-use mathlib.Core.Path.{_≡_, refl, sym, ap, _∙_, subst}
+use Prim.Native.Nat.{ℕ, _*_, _<_}
+use mathlib.Core.Path.{_≡_, refl, sym, ap, _∙_}
 use mathlib.Core.Bool.{Bool, true, false}
 use mathlib.Core.List.{List, [], _∷_, _++_, map}
 use native.Mathlib.Omega.{arith}
@@ -8,7 +8,6 @@ use lib.Dec.{T}
 use lib.ListN.{length, getD}
 use Rattle.laws.specs.Choice.{pick}
 use Rattle.laws.specs.Masks.{bitOf}
-use Rattle.laws.proofs.Picks.{choice}
 use Rattle.tune.specs.Sizes.{patternCount}
 use Rattle.tune.specs.Cells.{rowCells}
 use Rattle.row_path.specs.Leave.{lengthOf}
@@ -20,7 +19,7 @@ use Rattle.channel.specs.declared.state.Switches.{Switches}
 use Rattle.channel.specs.declared.channels.Rowed.{Rowed}
 use Rattle.channel.proofs.Own.{channel-at, strike-at}
 use Rattle.channel.proofs.Volumes.{volume-alike}
-use Rattle.section.specs.Tables.{Tables, Tune}
+use Rattle.section.specs.Tables.{Tune}
 use Rattle.tune.specs.Numbers.{bytesOf}
 use Rattle.section.specs.Records.{channelBytes}
 use Rattle.section.specs.Machines.{Voices, rowPlayed, recordOf, voicesAfter, recordsOf, voicesBehind}

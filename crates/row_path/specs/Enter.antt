@@ -12,7 +12,6 @@ use Rattle.row_path.specs.Loops.{scoped, jumpOf, looped}
 use Rattle.row_path.specs.declared.option.ByteOption.{ByteOption}
 use Rattle.row_path.specs.declared.option.ByteOption.the-variants.{None, Some}
 use Rattle.row_path.specs.declared.scan.Scan.{Scan}
-use Rattle.row_path.specs.declared.loops.PatternLoop.{PatternLoop}
 use Rattle.row_path.specs.declared.loops.Jump.the-variants.{Stay}
 use Rattle.row_path.specs.declared.loops.Looped.{Looped}
 use Rattle.row_path.specs.declared.machine.Clock.{Clock}

@@ -4,7 +4,6 @@ ghost use Prim.Native.Nat.{_*_, _≤_};
 ghost use lib.ListN.{length};
 use libc::STDOUT_FILENO;
 use section::open::open;
-use section::state::Sectioned;
 use section::state::State;
 use section::walk::section;
 use sheet::answer::Answer;

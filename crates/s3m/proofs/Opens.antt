@@ -1,12 +1,12 @@
 -- What Measure accepts, Open accepts but for the rate. Assumes nothing.
 use Prim.Native.Nat.{ℕ, _+_, _*_, _%_, _≤_}
-use mathlib.Core.Path.{_≡_, refl, _∙_}
-use mathlib.Core.Bool.{Bool, true, false, _&&_, _||_, not}
+use mathlib.Core.Path.{_≡_, refl}
+use mathlib.Core.Bool.{Bool, true, _&&_}
 use mathlib.Core.List.{List}
 use native.Mathlib.Omega.{arith}
 use borrow.Author.Tests.{eq-eqb, le-leb}
 use lib.Dec.{eqb, leb, ltb}
-use lib.ListN.{length, getD}
+use lib.ListN.{getD}
 use Rattle.laws.specs.Refusals.{refuse}
 use Rattle.laws.specs.Masks.{bitOf}
 use Rattle.laws.proofs.Picks.{choice}
@@ -17,7 +17,7 @@ use Rattle.tune.specs.Opening.{rateBroken, pansKept, rule10}
 use Rattle.s3m.specs.Layout.{countsOf, instrumentsAt, patternsAt, pansAt, hasPans, pointerAt, bytesAt}
 use Rattle.s3m.specs.Instruments.{instrumentSample, samplesOf}
 use Rattle.s3m.specs.Patterns.{patternCells, cellsOf}
-use Rattle.s3m.specs.Opening.{settingPan, panOf, channelOpening, channelAt, openingOf}
+use Rattle.s3m.specs.Opening.{panOf, channelOpening, channelAt, openingOf}
 use Rattle.s3m.specs.Refusals.{measureRule}
 use Rattle.s3m.specs.declared.header.Counts.{Counts}
 use Rattle.s3m.proofs.Accepted.{accepted}

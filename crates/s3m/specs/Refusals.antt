@@ -1,6 +1,6 @@
 -- Why Measure and Read say no (01, 'Why a call says no', rules 1 to 8). Assumes nothing.
 use Prim.Native.Nat.{ℕ, _*_}
-use mathlib.Core.Bool.{Bool, _&&_, _||_, not}
+use mathlib.Core.Bool.{_&&_, _||_, not}
 use mathlib.Core.List.{List}
 use lib.Dec.{eqb, ltb}
 use lib.ListN.{getD, length}

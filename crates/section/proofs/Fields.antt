@@ -8,7 +8,6 @@ use lib.Seq.{drop-at, drop-drop}
 use Rattle.laws.proofs.Rules.{sound}
 use Rattle.tune.specs.Numbers.{littleAt, bytesOf}
 use Rattle.tune.proofs.Little.{little-back}
-use Rattle.tune.proofs.Sized.{sized}
 use Rattle.row_path.specs.Enter.{entered}
 use Rattle.row_path.specs.Leave.{lengthOf, left}
 use Rattle.row_path.specs.Walk.{Turn, Stop, Row, turn, pathWalk}

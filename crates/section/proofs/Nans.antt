@@ -1,5 +1,5 @@
 -- A float that is not equal to itself is not a number. Assumes nothing.
-use mathlib.Core.Path.{_≡_, refl, ap, _∙_}
+use mathlib.Core.Path.{_≡_, refl, ap}
 use mathlib.Core.Bool.{Bool, true, false, not, Bool·beq}
 use Prim.Native.Nat.{_*_}
 use borrow.Author.Tests.{eq-eqb}

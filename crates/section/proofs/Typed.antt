@@ -1,5 +1,5 @@
 -- What the types of a state give of it, drawn from what owning its values says. Assumes nothing.
-use Prim.Native.Nat.{ℕ, zero, suc, _≤_, _<_}
+use Prim.Native.Nat.{ℕ, zero, suc, _<_}
 use mathlib.Core.Path.{_≡_, refl, sym, _∙_}
 use mathlib.Core.Bool.{Bool, true, false}
 use mathlib.Core.List.{List, [], _∷_, map}
@@ -12,7 +12,6 @@ use denote.Shadow.{shadow}
 use denote.Array.{each}
 use denote.Struct.Field.{Field, array-field, u8-field}
 use Rattle.tune.specs.declared.opening.Opening.{Opening}
-use Rattle.tune.specs.declared.opening.ChannelOpening.{ChannelOpening}
 use Rattle.tune.proofs.opening.Opening as opening
 use Rattle.tune.proofs.opening.ChannelOpening as channelOpening
 use Rattle.row_path.specs.Sound.{Bytes}

@@ -8,7 +8,6 @@ use Rattle.tune.specs.Opening.{rule10, blankOpening}
 use Rattle.tune.specs.declared.opening.Opening.{Opening}
 use Rattle.row_path.specs.First.{firstPath}
 use Rattle.channel.specs.Opening.{openedChannel}
-use Rattle.channel.specs.declared.state.Switches.{Switches}
 use Rattle.section.specs.declared.state.State.{State}
 use Rattle.section.specs.declared.state.Opened.{Opened}
 use Rattle.section.specs.Tables.{Tables, tablesRule}

@@ -1,11 +1,10 @@
 -- Section (01, 'Section' and rules 9, 11 and 12). Assumes nothing.
 use Prim.Native.Nat.{ℕ, zero, suc, _*_, _^_}
-use mathlib.Core.Bool.{Bool, true, false, _||_, not}
+use mathlib.Core.Bool.{Bool, false, _||_, not}
 use mathlib.Core.List.{List, [], _∷_, _++_}
 use lib.Dec.{eqb, ltb}
 use lib.Ieee.{isNan}
 use lib.ListN.{length, drop}
-use Rattle.laws.specs.Choice.{pick}
 use Rattle.laws.specs.Entries.{every}
 use Rattle.laws.specs.Refusals.{refuse, orElse}
 use Rattle.tune.specs.Opening.{rateBroken}

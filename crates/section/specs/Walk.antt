@@ -3,7 +3,6 @@ use Prim.Native.Nat.{ℕ, zero, suc}
 use mathlib.Core.List.{List, [], _∷_}
 use Rattle.row_path.specs.Walk.{Turn, Stop, Row, turn}
 use Rattle.row_path.specs.declared.machine.Path.{Path}
-use Rattle.row_path.specs.declared.machine.Entered.{Entered}
 use Rattle.section.specs.declared.state.State.{State}
 use Rattle.section.specs.Tables.{Tables}
 use Rattle.section.specs.Machines.{Voices, recordOf, voicesAfter}

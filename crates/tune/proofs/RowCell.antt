@@ -1,12 +1,12 @@
 -- A cell of a row's part is the cell of the table. Assumes nothing.
 use mathlib.Core.Path.{_≡_, _∙_, ap, sym}
 use mathlib.Core.List.{List}
-use Prim.Native.Nat.{ℕ, _+_, _*_, _≤_, _<_}
+use Prim.Native.Nat.{ℕ, _+_, _*_, _<_}
 use native.Mathlib.Omega.{arith}
 use native.Mathlib.Nat.{add-assoc}
-use lib.ListN.{length, getD, take, drop}
+use lib.ListN.{getD, take, drop}
 use lib.Seq.{getD-take, getD-drop}
-use Rattle.tune.specs.Cells.{rowPlace, cellBytes, cellAt, rowCells, cellOf}
+use Rattle.tune.specs.Cells.{rowPlace, cellAt, rowCells, cellOf}
 
 pub row-cell : (cells : List ℕ) (pattern row channel : ℕ) → channel < 32 → cellOf (rowCells cells pattern row) channel ≡ cellAt cells pattern row channel
 unfolding cellOf rowCells cellAt

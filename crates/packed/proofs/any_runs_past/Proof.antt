@@ -1,7 +1,6 @@
 -- `packed::any_runs_past` meets its contract. The loop's invariant: each pattern's end from here is its end from its first
 -- byte. The measure is what is left of the rows and the file, of all four. Assumes nothing.
-use Prim.Native.Nat.{ℕ, _+_}
-use mathlib.Core.Path.{ap}
+use Prim.Native.Nat.{_+_}
 use mathlib.Core.Bool.{_||_}
 use native.Mathlib.Omega.{arith}
 use denote.Ref.{now}

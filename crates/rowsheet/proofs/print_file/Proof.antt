@@ -1,5 +1,5 @@
 -- `rowsheet::print_file` meets its contract. Assumes nothing.
-use mathlib.Core.Path.{sym, ap, _∙_}
+use mathlib.Core.Path.{sym}
 use native.Mathlib.Omega.{arith}
 use borrow.Author.Needs.{needs}
 use Rattle.s3m.proofs.Accepted.{found-listed}

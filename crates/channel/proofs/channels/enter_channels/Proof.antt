@@ -3,8 +3,8 @@
 use Prim.Native.Nat.{_≤_, _<_, _-_, _+_, _^_}
 use borrow.Author.Needs.{needs}
 use native.Mathlib.Omega.{arith}
-use mathlib.Core.Path.{_≡_, refl, sym, _∙_}
-use lib.ListN.{length, drop, length-map, length-set}
+use mathlib.Core.Path.{_≡_, sym, _∙_}
+use lib.ListN.{length, drop, length-set}
 use Rattle.laws.specs.Masks.{maskFrom}
 use Rattle.laws.proofs.Maps.{mixed, mixed-start, mixed-step, mixed-end}
 use Rattle.laws.proofs.Bits.{mask-more, mask-done}

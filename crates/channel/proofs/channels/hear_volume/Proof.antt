@@ -1,5 +1,4 @@
 -- `channel::channels::hear_volume` meets its contract. Assumes nothing.
-use borrow.Author.Needs.{needs}
 use Rattle.channel.proofs.channels.hear_volume.Statement.{statement}
 use Rattle.channel.proofs.channels.hear_volume.Tie as tie
 

@@ -1,5 +1,4 @@
 -- `channel::commands::waveform_of` meets its contract. Assumes nothing.
-use borrow.Author.Needs.{needs}
 use borrow.Author.Tests.{ne-eqb}
 use Rattle.channel.specs.Commands.{waveformOf}
 use Rattle.channel.proofs.commands.waveform_of.Statement.{statement}

@@ -1,5 +1,4 @@
 -- `channel::play::cut_note` meets its contract. Assumes nothing.
-use borrow.Author.Needs.{needs}
 use lib.Ieee.{ofBits}
 use Rattle.channel.specs.Play.{cut}
 use Rattle.channel.specs.Set.{withVoice, withCut}

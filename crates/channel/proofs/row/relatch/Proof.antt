@@ -1,5 +1,4 @@
 -- `channel::row::relatch` meets its contract. Assumes nothing.
-use borrow.Author.Needs.{needs}
 use borrow.Author.Tests.{eq-eqb, ne-eqb}
 use Rattle.channel.specs.Row.{relatched}
 use Rattle.channel.specs.Set.{withLatch}

@@ -1,5 +1,4 @@
 -- `channel::state::open_channel` meets its contract. Assumes nothing.
-use borrow.Author.Needs.{needs}
 use mathlib.Core.Path.{refl}
 use lib.Ieee.{ofBits}
 use Rattle.channel.specs.Opening.{openedChannel}

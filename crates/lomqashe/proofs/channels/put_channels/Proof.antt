@@ -1,6 +1,6 @@
 -- `lomqashe::channels::put_channels` meets its contract. Assumes nothing.
 use denote.Ref.{now}
-use Prim.Native.Nat.{_≤_, _<_, _-_}
+use Prim.Native.Nat.{_≤_, _-_}
 use lib.ListN.{length}
 use borrow.Author.Needs.{needs}
 use native.Mathlib.Omega.{arith}

@@ -1,6 +1,4 @@
 -- `section::rules::channel_broken` meets its contract. Assumes nothing.
-use borrow.Author.Needs.{needs}
-use mathlib.Core.Path.{refl}
 use Rattle.section.proofs.Nans.{unequal-nan}
 use Rattle.section.specs.Section.{channelBroken}
 use Rattle.section.proofs.rules.channel_broken.Statement.{statement}
