@@ -21,9 +21,10 @@ def run(*words, here=ROOT, stdout=subprocess.PIPE, **settings):
     """The exit status of a script, what it printed and what it said on standard error."""
     path = f"{settings.pop('tools')}:{os.environ['PATH']}"
     words = [str(word) for word in words]
+    around = {name: value for name, value in os.environ.items() if not name.startswith("LOMQASHE_")}
     done = subprocess.run(
         words, cwd=here, stdin=subprocess.DEVNULL, stdout=stdout, stderr=subprocess.PIPE, text=True, check=False,
-        env={**os.environ, "PATH": path, **settings},
+        env={**around, "PATH": path, **settings},
     )
     return done.returncode, done.stdout, done.stderr
 
@@ -119,6 +120,37 @@ def prove_cases(tools, folder):
     yield "no words", holds(prove(), 2, "", "usage")
 
 
+def linked_cases(tools, folder):
+    """bench/ and compare/ in a repository of their own, with a cargo that tells what it got and stops them there."""
+    repository, original = folder / "repository", folder / "original"
+    shutil.copytree(ROOT / "bench", repository / "bench")
+    shutil.copytree(ROOT / "compare", repository / "compare")
+    shutil.copytree(ROOT / "oracle", repository / "oracle")
+    shutil.copy(ROOT / "prove", repository)
+    (repository / "crates.txt").write_text("lomqashe:\npath_alone:\n")
+    (original / "src").mkdir(parents=True)
+    for name in ("header", "opl2", "pattern", "player"):
+        (original / f"src/{name}.rs").write_text("")
+    (folder / "archive").mkdir()
+    stand_in(tools, "rt", "echo rt: $2 proved")
+    stand_in(tools, "cargo", "echo archive ${LOMQASHE_ARCHIVE-none}, original $LOMQASHE_ORIGINAL >&2; exit 7")
+    stand_in(tools, "valgrind", "")
+    for script in ("bench/run", "bench/count", "compare/run"):
+        def asked(*words, **settings):
+            return run(repository / script, *words, here=folder, tools=tools, **{"LOMQASHE_ORIGINAL": "original", **settings})
+
+        named = f"archive {folder}/archive, original {original}"
+        proving = "target/staticlib/liblomqashe.a is proved and compiled first: 1 crates, some minutes"
+        status, printed, said = asked("--help", LOMQASHE_ORIGINAL="none")
+        yield f"{script} --help", holds((status, printed.split(" [")[0], said), 0, f"usage: {script}")
+        yield f"{script}, a wrong word", holds(asked("--rows"), 2, "", f"usage: {script}")
+        yield f"{script}, no original", holds(asked(LOMQASHE_ORIGINAL="none"), 3, "", "original sources are not at none")
+        yield f"{script}, proving", holds(asked(), 7, "", proving, f"archive none, original {original}")
+        yield f"{script}, an empty name", holds(asked(LOMQASHE_ARCHIVE=""), 7, "", proving, "archive none")
+        yield f"{script}, a near archive", holds(asked(LOMQASHE_ARCHIVE="archive"), 7, "", named)
+        yield f"{script}, no archive", holds(asked(LOMQASHE_ARCHIVE="none"), 2, "", "no folder none")
+
+
 def newer(file, other):
     at = other.stat().st_mtime + 5
     os.utime(file, (at, at))
@@ -128,7 +160,7 @@ def main():
     total = wrong = 0
     with tempfile.TemporaryDirectory() as scratch:
         scratch = pathlib.Path(scratch)
-        for cases in (sheet_cases, prove_cases):
+        for cases in (sheet_cases, prove_cases, linked_cases):
             tools, folder = scratch / f"{cases.__name__}-tools", scratch / cases.__name__
             folder.mkdir()
             stand_in(tools, "rt", "echo 'rt: laws proved (unchanged since it was last proved)'")
