@@ -105,7 +105,7 @@ def prove_cases(tools, folder):
         "rt",
         "echo 'rt: low proved (unchanged since it was last proved)'; echo 'rt: high proved (9 s)'; echo $PWD $* >../asked",
     )
-    yield "nothing is there", holds(prove("staticlib", "high"), 0, "", "2 crates", "minutes", "crate 2 of 2 is proved: high")
+    yield "nothing is there", holds(prove("staticlib", "high"), 0, "", "2 crates, about 1 minutes", "crate 2 of 2 is proved: high")
     yield "what rt is asked", holds((0, (folder / "asked").read_text(), ""), 0, f"{repository} staticlib high\n")
     (repository / "target/staticlib").mkdir(parents=True)
     (repository / "target/staticlib/libhigh.a").write_text("")
@@ -140,7 +140,7 @@ def linked_cases(tools, folder):
             return run(repository / script, *words, here=folder, tools=tools, **{"LOMQASHE_ORIGINAL": "original", **settings})
 
         named = f"archive {folder}/archive, original {original}"
-        proving = "target/staticlib/liblomqashe.a is proved and compiled first: 1 crates, some minutes"
+        proving = "target/staticlib/liblomqashe.a is proved and compiled first: 1 crates, about 1 minutes"
         status, printed, said = asked("--help", LOMQASHE_ORIGINAL="none")
         yield f"{script} --help", holds((status, printed.split(" [")[0], said), 0, f"usage: {script}")
         yield f"{script}, a wrong word", holds(asked("--rows"), 2, "", f"usage: {script}")

@@ -1,11 +1,14 @@
 #!/usr/bin/env python3
-"""Runs the built program rowsheet on files made from 01's worked example and compares what it prints, byte for byte.
+"""Runs the built program rowsheet on small files and compares what it prints, byte for byte.
 
 The expected lines are written here from 01 and never taken from the program: tests/sheets.py [PROGRAM]
 """
 import pathlib
 import subprocess
 import sys
+
+import files
+from files import tune, word
 
 ROOT = pathlib.Path(__file__).resolve().parent.parent
 TITLE = "order,pattern,row,held,speed,tempo,start,length,strikes\n"
@@ -18,14 +21,7 @@ ORDERS, INSTRUMENT_POINTER, PATTERN_POINTER, INSTRUMENT, PACKED = 96, 97, 99, 11
 
 def edited(*edits):
     """The worked example with bytes put over its own, each edit a place and the bytes."""
-    out = bytearray(WORKED)
-    for at, new in edits:
-        out[at : at + len(new)] = new
-    return bytes(out)
-
-
-def word(n):
-    return n.to_bytes(2, "little")
+    return files.edited(WORKED, *edits)
 
 
 def refused(number):
@@ -44,22 +40,35 @@ def many_patterns(n):
     return edited((34, word(0)), (36, word(n)))[:ORDERS] + lists
 
 
-def tune(orders, cells):
-    """These orders and one pattern without instruments, in which channel 0 has a command and an info in some rows."""
-    lists = bytes(orders) + word((ORDERS + len(orders) + 2 + 15) // 16)
-    rows = b"".join(bytes([0x80, *cells[row], 0]) if row in cells else b"\0" for row in range(64))
-    header = edited((32, word(len(orders))), (34, word(0)), (36, word(1)))[:ORDERS] + lists
-    return header.ljust((len(header) + 15) // 16 * 16, b"\0") + word(0) + rows
-
-
 def length(rows):
     return f"{rows},{rows * 7200}"
 
 
-B_PAST, C_NEXT, HOLD_5 = (2, 255), (3, 0), (19, 0xE5)
 FORTY = [(order, row, 0, 0) for order in range(250) for row in range(40)]
-FIFTY = [(0, row, 0, 0) for row in range(50)]
 EMPTY = edited((PATTERN_POINTER, word(0)))
+
+
+def once(first, last=64):
+    """Rows of order 0 in turn, none held."""
+    return [(0, row, 0, 0) for row in range(first, last)]
+
+
+# The files of README's table, by 01's steps. Row 1's SB1 in `two-loops` jumps once and then clears the count; row 2's SB1
+# finds none and jumps to row 0, where row 1's uses that count up, and so on for ever.
+PLAYERS = {
+    "hold-and-jump": sheet([(0, 0, 0, 0)], f"end,{length(1)}"),
+    "hold-and-break": sheet([(0, 0, 0, 0)] + [(1, row, 0, 0) for row in range(5, 64)], f"end,{length(60)}"),
+    # The loop's jump drops the hold; the second time there is no jump.
+    "hold-and-loop": sheet(once(0, 2) * 2 + [(0, 1, 1, 0)] + once(2), f"end,{length(67)}"),
+    # The last channel's hold counts, and so does the last channel's loop request: alone.
+    "two-holds": sheet([(0, 0, 0, 0), (0, 0, 1, 0)] + once(1), f"end,{length(65)}"),
+    "two-loops": sheet((once(0, 2) + once(0, 3) * 3333)[:10000], f"more,{length(10000)}"),
+    "loop-and-start": sheet(once(0), f"end,{length(64)}"),
+    "start-and-loop": sheet(once(0, 3) * 3 + once(3), f"end,{length(70)}"),
+    "no-pattern": sheet(once(0), f"end,{length(64)}"),
+    "channel-off": TITLE + "".join(f"0,0,{row},0,3,125,{row * 3600},3600,0\n" for row in range(64)) + "end,64,230400\n",
+    "jump-past": sheet([(0, 0, 0, 0)], f"end,{length(1)}"),
+}
 CASES = [
     ("01's worked example", WORKED, SHEET),
     ("nothing", b"", refused(1)),
@@ -82,12 +91,12 @@ CASES = [
     ("7 patterns", many_patterns(7), refused(0)),
     ("7 patterns and speed 0", many_patterns(7)[:49] + bytes([0]) + many_patterns(7)[50:], refused(5)),
     ("7 patterns and an instrument past the file", edited((36, word(7)), (INSTRUMENT_POINTER, word(4095))), refused(0)),
-    ("6 patterns", many_patterns(6), sheet([(0, row, 0, 0) for row in range(64)], "end,64,460800")),
+    ("6 patterns", many_patterns(6), sheet(once(0), "end,64,460800")),
     ("65,536 bytes", WORKED.ljust(65536, b"\0"), SHEET),
     ("65,537 bytes", WORKED.ljust(65537, b"\0"), refused(0)),
     ("65,537 bytes without a mark", bytes(65537), refused(0)),
     ("a million bytes", bytes(1000000), refused(0)),
-    ("an empty pattern", EMPTY, sheet([(0, row, 0, 0) for row in range(64)], "end,64,460800")),
+    ("an empty pattern", EMPTY, sheet(once(0), "end,64,460800")),
     ("orders FE", edited((ORDERS, [0xFE])), f"{TITLE}end,0,0\n"),
     ("orders FF", edited((ORDERS, [0xFF])), f"{TITLE}end,0,0\n"),
     ("a pattern that is not there", edited((ORDERS, [1])), f"{TITLE}end,0,0\n"),
@@ -98,17 +107,18 @@ CASES = [
         sheet([(0, 0, 0, 1)] * 10000, "more,10000,72000000"),
     ),
     # Each order has 40 rows.
-    ("10,000 rows and ended", tune([0] * 250, {39: C_NEXT}), sheet(FORTY, f"end,{length(10000)}")),
-    ("10,000 rows and more", tune([0] * 251, {39: C_NEXT}), sheet(FORTY, f"more,{length(10000)}")),
-    ("10,000 rows, and the next enter would end", tune([0] * 250 + [255], {39: C_NEXT}), sheet(FORTY, f"more,{length(10000)}")),
+    ("10,000 rows and ended", tune([0] * 250, {39: "C00"}), sheet(FORTY, f"end,{length(10000)}")),
+    ("10,000 rows and more", tune([0] * 251, {39: "C00"}), sheet(FORTY, f"more,{length(10000)}")),
+    ("10,000 rows, and the next enter would end", tune([0] * 250 + [255], {39: "C00"}), sheet(FORTY, f"more,{length(10000)}")),
     # The program asks for 50 rows at a time.
-    ("an end in the last row of a section", tune([0], {49: B_PAST}), sheet(FIFTY, f"end,{length(50)}")),
-    ("an end that the next section's enter finds", tune([0, 255], {49: C_NEXT}), sheet(FIFTY, f"end,{length(50)}")),
+    ("an end in the last row of a section", tune([0], {49: "BFF"}), sheet(once(0, 50), f"end,{length(50)}")),
+    ("an end that the next section's enter finds", tune([0, 255], {49: "C00"}), sheet(once(0, 50), f"end,{length(50)}")),
     (
         "a hold across a seam",
-        tune([0], {48: HOLD_5}),
-        sheet(FIFTY[:49] + [(0, 48, 1, 0)] * 5 + [(0, row, 0, 0) for row in range(49, 64)], f"end,{length(69)}"),
+        tune([0], {48: "SE5"}),
+        sheet(once(0, 49) + [(0, 48, 1, 0)] * 5 + once(49), f"end,{length(69)}"),
     ),
+    *((name, file, PLAYERS[name]) for name, file in files.PLAYERS.items()),
 ]
 
 
