@@ -110,14 +110,20 @@ def prove_cases(tools, folder):
     (repository / "target/staticlib").mkdir(parents=True)
     (repository / "target/staticlib/libhigh.a").write_text("")
     stand_in(tools, "rt", "echo 'rt: high proved (unchanged since it was last proved)'")
-    yield "all is proved", holds(prove("staticlib", "high"), 0, "")
+    again = "target/staticlib/libhigh.a is proved and compiled again first: up to a minute\n"
+    yield "all is proved", holds(prove("staticlib", "high"), 0, "", again)
     newer(repository / "crates/other/lib.rt", repository / "target/staticlib/libhigh.a")
-    yield "a crate that it does not need has changed", holds(prove("staticlib", "high"), 0, "")
+    yield "a crate that it does not need has changed", holds(prove("staticlib", "high"), 0, "", again)
     newer(repository / "crates/low/lib.rt", repository / "target/staticlib/libhigh.a")
     yield "a crate that it needs has changed", holds(prove("staticlib", "high"), 0, "", "2 crates")
     stand_in(tools, "rt", "echo 'rt: low is not proved'; exit 1")
     yield "not proved", holds(prove("check", "high"), 2, "", "rt: low is not proved")
     yield "no words", holds(prove(), 2, "", "usage")
+    (repository / "target/bin").mkdir()
+    (repository / "target/bin/high").write_text("")
+    newer(repository / "target/bin/high", repository / "crates/low/lib.rt")
+    stand_in(tools, "rt", "echo 'rt: high proved (unchanged since it was last proved)'")
+    yield "a program that is proved", holds(prove("check", "high"), 0, "")
 
 
 def linked_cases(tools, folder):
