@@ -105,7 +105,8 @@ def prove_cases(tools, folder):
         "rt",
         "echo 'rt: low proved (unchanged since it was last proved)'; echo 'rt: high proved (9 s)'; echo $PWD $* >../asked",
     )
-    yield "nothing is there", holds(prove("staticlib", "high"), 0, "", "2 crates, about 1 minutes", "crate 2 of 2 is proved: high")
+    told = ("2 crates, about 1 minutes", "crate 2 of 2 is proved: high")
+    yield "nothing is there", holds(prove("staticlib", "high"), 0, "", *told)
     yield "what rt is asked", holds((0, (folder / "asked").read_text(), ""), 0, f"{repository} staticlib high\n")
     (repository / "target/staticlib").mkdir(parents=True)
     (repository / "target/staticlib/libhigh.a").write_text("")
