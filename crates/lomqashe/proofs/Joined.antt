@@ -1,4 +1,4 @@
--- Two sections through this border are one. Assumes nothing.
+-- The rows of two sections through this border are those of one walk. Assumes nothing.
 use Prim.Native.Nat.{ℕ, zero, suc, _+_}
 use mathlib.Core.Path.{_≡_, refl, sym, ap, _∙_}
 use mathlib.Core.List.{List, _++_}

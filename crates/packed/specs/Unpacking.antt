@@ -49,6 +49,6 @@ endOf s at = endFrom (64 + length s) s at 0
 unfoldable pub unpacked : List ℕ → ℕ → List ℕ
 unpacked s at = cellsFrom (64 + length s) s at 0 emptyPattern
 
--- rule 8: the pattern runs past the file before its 64th row ends
+-- rule 8: the pattern runs past the file before its 64th row ends, that is, a byte is read that is not there (`runs-past-reads`)
 unfoldable pub runsPast : List ℕ → ℕ → Bool
 runsPast s at = ltb (length s) (endOf s at)

@@ -1,4 +1,4 @@
--- Rules 9 and 11 never refuse a state of Section's own. Assumes nothing.
+-- Rule 11 refuses no state that Section gives within 2^32 rows of Open. Assumes nothing.
 use Prim.Native.Nat.{ℕ, zero, suc, _+_, _*_, _^_, _≤_}
 use mathlib.Core.Path.{_≡_, refl, ap, _∙_, subst}
 use mathlib.Core.Bool.{Bool, true, false, not, _||_}
