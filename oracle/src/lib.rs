@@ -2,7 +2,6 @@
 
 pub mod calls;
 pub mod cover;
-pub mod example;
 pub mod generate;
 pub mod list;
 pub mod plan;
@@ -14,7 +13,6 @@ pub mod record;
 pub mod rules;
 pub mod sheet;
 pub mod sheets;
-pub mod show;
 pub mod state;
 pub mod tune;
 pub mod writer;
@@ -28,10 +26,6 @@ pub mod samples;
 
 #[cfg(test)]
 mod patch;
-#[cfg(test)]
-mod path;
-#[cfg(test)]
-mod reader_tests;
 #[cfg(test)]
 mod tests;
 

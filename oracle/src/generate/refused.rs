@@ -2,13 +2,14 @@
 
 use super::unclean;
 use crate::calls::{Call, Function};
-use crate::example;
 use crate::random::Random;
 use crate::reader::Lent;
 use crate::rules::MOST_START;
 use crate::state::State;
 use crate::tune::{OPENING_BYTES, PATTERN_BYTES, RECORD_BYTES, SAMPLE_BYTES, Tune};
 
+/// 01's worked example.
+const WORKED: &[u8] = include_bytes!("../../examples/worked.s3m");
 const NANS: [u32; 4] = [0x7F80_0001, 0x7FC0_0000, 0xFF80_0001, 0xFFFF_FFFF];
 
 /// A call on a tune, from a state.
@@ -18,14 +19,14 @@ pub fn call(random: &mut Random, tune: &Tune, state: &State) -> Call {
         break_tables(random, &mut tune);
     }
     let (call, slots): (Call, &[usize]) = match random.below(10) {
-        0 => (Call::measure(&file(random)), &[1]),
+        0 => (Call::measure(file(random)), &[1]),
         1 => {
             let lent = Lent {
                 orders: 1,
                 samples: SAMPLE_BYTES,
                 cells: PATTERN_BYTES,
             };
-            (Call::read(&file(random), random.number() as u32, &lent), &[4])
+            (Call::read(file(random), random.number() as u32, &lent), &[4])
         }
         2..5 => (open(random, &mut tune), &[3, 4]),
         5..8 => (section(random, &tune, state.clone()), &[3]),
@@ -34,12 +35,8 @@ pub fn call(random: &mut Random, tune: &Tune, state: &State) -> Call {
     resized(random, call, slots)
 }
 
-fn file(random: &mut Random) -> Vec<u8> {
-    if random.chance(50) {
-        example::worked()
-    } else {
-        Vec::new()
-    }
+fn file(random: &mut Random) -> &'static [u8] {
+    if random.chance(50) { WORKED } else { &[] }
 }
 
 /// Now and then another length of one of these slots.
