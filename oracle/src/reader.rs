@@ -1,28 +1,40 @@
-//! Reads an S3M file as 01's part 'Measure and Read' says, independent of the
-//! original's header.rs and pattern.rs. A refusal is its number in 01's list.
+//! Reads an S3M file as 01's part 'Measure and Read' says, independent of the original's header.rs and pattern.rs. A
+//! refusal is its number in 01's list.
 
 use crate::tune::*;
 
 const HEADER_BYTES: usize = 96;
-const INSTRUMENT_BYTES: usize = 80;
-
-/// What Measure gives.
-#[derive(Clone, Copy, Debug, PartialEq, Eq)]
-pub struct Counts {
-    pub orders: usize,
-    pub instruments: usize,
-    pub patterns: usize,
-}
+pub const INSTRUMENT_BYTES: usize = 80;
 
 /// The lengths in bytes of the tables that Read is lent.
-#[derive(Clone, Copy, Debug, PartialEq, Eq)]
+#[derive(Clone, Copy, Debug, Default, PartialEq, Eq)]
 pub struct Lent {
     pub orders: usize,
     pub samples: usize,
     pub cells: usize,
 }
 
-impl Counts {
+/// The file's lists, as its counts say they lie.
+#[derive(Clone, Copy)]
+pub struct Lists {
+    pub orders: usize,
+    pub instruments: usize,
+    pub patterns: usize,
+    pub has_pans: bool,
+}
+
+impl Lists {
+    /// None where the counts or byte 53 are not there.
+    pub fn of(file: &[u8]) -> Option<Lists> {
+        let count = |at| usize::from(le16(file, at));
+        (file.len() >= 54).then(|| Lists {
+            orders: count(32),
+            instruments: count(34),
+            patterns: count(36),
+            has_pans: file[53] == 252,
+        })
+    }
+
     /// The lengths that the counts need.
     pub fn needs(&self) -> Lent {
         Lent {
@@ -32,87 +44,98 @@ impl Counts {
         }
     }
 
-    fn instrument_pointers(&self) -> usize {
-        HEADER_BYTES + self.orders
+    /// Where the pans stand, if they do.
+    pub fn pans(&self) -> usize {
+        HEADER_BYTES + self.orders + 2 * (self.instruments + self.patterns)
     }
 
-    fn pattern_pointers(&self) -> usize {
-        self.instrument_pointers() + 2 * self.instruments
+    pub fn end(&self) -> usize {
+        self.pans() + if self.has_pans { CHANNELS } else { 0 }
     }
 
-    fn pans(&self) -> usize {
-        self.pattern_pointers() + 2 * self.patterns
+    /// The places that the instrument pointers name, as far as the list is there.
+    pub fn instrument_places(&self, file: &[u8]) -> Vec<usize> {
+        places(file, HEADER_BYTES + self.orders, self.instruments)
+    }
+
+    pub fn pattern_places(&self, file: &[u8]) -> Vec<usize> {
+        places(file, HEADER_BYTES + self.orders + 2 * self.instruments, self.patterns)
     }
 }
 
+fn places(file: &[u8], list: usize, count: usize) -> Vec<usize> {
+    let pointers = file.get(list..).unwrap_or_default().chunks_exact(2).take(count);
+    pointers.map(|two| 16 * usize::from(le16(two, 0))).collect()
+}
+
 /// Refusals 1 to 5 in order, else the counts.
-pub fn measure(file: &[u8]) -> Result<Counts, u8> {
-    if file.len() < HEADER_BYTES {
-        return Err(1);
+pub fn measure(file: &[u8]) -> Result<Lists, u8> {
+    match broken(file, &Lent::default())[..] {
+        [rule @ ..=5, ..] => Err(rule),
+        _ => Ok(Lists::of(file).expect("the file has a header")),
     }
-    if &file[44..48] != b"SCRM" {
-        return Err(2);
-    }
-    let [orders, instruments, patterns] = [32, 34, 36].map(|at| usize::from(le16(file, at)));
-    if orders == 0 || orders > 255 || instruments > 99 || patterns > 100 {
-        return Err(3);
-    }
-    let counts = Counts {
-        orders,
-        instruments,
-        patterns,
-    };
-    let pans = if has_pans(file) { CHANNELS } else { 0 };
-    if counts.pans() + pans > file.len() {
-        return Err(4);
-    }
-    let [global_volume, speed, tempo] = [file[48], file[49], file[50]];
-    if speed == 0 || tempo < 32 || global_volume > 64 {
-        return Err(5);
-    }
-    Ok(counts)
 }
 
 /// Refusals 1 to 8 in order, else the tune: Read with tables of these lengths.
 pub fn read_lent(file: &[u8], lent: &Lent, rate: u32) -> Result<Tune, u8> {
-    if measure(file)?.needs() != *lent {
-        return Err(6);
+    if let [rule, ..] = broken(file, lent)[..] {
+        return Err(rule);
     }
-    read(file, rate)
-}
-
-/// Refusals 1 to 5, 7 and 8 in order, else the tune. There is no 6: the tables are
-/// made here, of the very sizes that the counts need.
-pub fn read(file: &[u8], rate: u32) -> Result<Tune, u8> {
-    let counts = measure(file)?;
-    let orders = file[HEADER_BYTES..][..counts.orders].to_vec();
-    let pointer = |list: usize, i: usize| 16 * usize::from(le16(file, list + 2 * i));
-    let mut samples = Vec::new();
-    for i in 0..counts.instruments {
-        samples.extend(instrument(file, pointer(counts.instrument_pointers(), i))?);
-    }
-    let mut cells = Vec::new();
-    for i in 0..counts.patterns {
-        cells.extend(pattern(file, pointer(counts.pattern_pointers(), i))?);
-    }
+    let lists = Lists::of(file).expect("the file has a header");
+    let (instruments, patterns) = (lists.instrument_places(file), lists.pattern_places(file));
     Ok(Tune {
-        orders,
-        samples,
-        cells,
-        opening: opening(file, &counts, rate),
+        orders: file[HEADER_BYTES..][..lists.orders].to_vec(),
+        samples: instruments.into_iter().flat_map(|at| instrument(file, at)).collect(),
+        cells: patterns.into_iter().flat_map(|at| cells(file, at)).collect(),
+        opening: opening(file, &lists, rate),
     })
 }
 
-fn has_pans(file: &[u8]) -> bool {
-    file[53] == 252
+/// The same with tables of the very lengths that the counts need.
+pub fn read(file: &[u8], rate: u32) -> Result<Tune, u8> {
+    read_lent(file, &measure(file)?.needs(), rate)
 }
 
-fn opening(file: &[u8], counts: &Counts, rate: u32) -> Opening {
+/// The broken rules among 1 to 8, rising, each asked alone: one whose bytes are not in the file is not broken.
+pub fn broken(file: &[u8], lent: &Lent) -> Vec<u8> {
+    let byte = |at: usize| file.get(at).copied();
+    let count = |at| (file.len() >= at + 2).then(|| usize::from(le16(file, at)));
+    let [orders, instruments, patterns] = [32, 34, 36].map(count);
+    let lists = Lists::of(file);
+    let over = |count: Option<usize>, most: usize| count.is_some_and(|count| count > most);
+    let other = |count: Option<usize>, size: usize, lent: usize| count.is_some_and(|count| count * size != lent);
+    let cut = |places: fn(&Lists, &[u8]) -> Vec<usize>, is_cut: fn(&[u8], usize) -> bool| {
+        lists.is_some_and(|lists| places(&lists, file).iter().any(|&at| is_cut(file, at)))
+    };
+    let rules = [
+        file.len() < HEADER_BYTES,
+        file.get(44..48).is_some_and(|mark| mark != b"SCRM"),
+        orders == Some(0) || over(orders, 255) || over(instruments, 99) || over(patterns, 100),
+        lists.is_some_and(|lists| lists.end() > file.len()),
+        byte(49) == Some(0) || byte(50).is_some_and(|tempo| tempo < 32) || byte(48) > Some(64),
+        other(orders, 1, lent.orders)
+            || other(instruments, SAMPLE_BYTES, lent.samples)
+            || other(patterns, PATTERN_BYTES, lent.cells),
+        cut(Lists::instrument_places, is_cut_instrument),
+        cut(Lists::pattern_places, is_cut_pattern),
+    ];
+    (1..).zip(rules).filter(|rule| rule.1).map(|rule| rule.0).collect()
+}
+
+pub fn is_cut_instrument(file: &[u8], at: usize) -> bool {
+    at != 0 && file.len() < at + INSTRUMENT_BYTES
+}
+
+pub fn is_cut_pattern(file: &[u8], at: usize) -> bool {
+    at != 0 && !matches!(entries(file, at).1, End::Whole(_))
+}
+
+fn opening(file: &[u8], lists: &Lists, rate: u32) -> Opening {
     let flags = le16(file, 38);
     let channel = |i: usize| {
         let mut channel = channel_setting(file[64 + i]);
-        if has_pans(file) && file[counts.pans() + i] & 32 != 0 {
-            channel.pan = file[counts.pans() + i] & 15;
+        if lists.has_pans && file[lists.pans() + i] & 32 != 0 {
+            channel.pan = file[lists.pans() + i] & 15;
         }
         channel
     };
@@ -141,16 +164,11 @@ fn channel_setting(setting: u8) -> ChannelOpening {
     }
 }
 
-/// The 20 bytes of a sample: all 0 for pointer 0 and for types but 1 to 7; AdLib types
-/// keep type, volume and c5 speed.
-fn instrument(file: &[u8], at: usize) -> Result<[u8; SAMPLE_BYTES], u8> {
-    let mut out = [0; SAMPLE_BYTES];
-    if at == 0 {
-        return Ok(out);
-    }
-    let b = file.get(at..at + INSTRUMENT_BYTES).ok_or(7)?;
-    if !(1..=7).contains(&b[0]) {
-        return Ok(out);
+/// The 20 bytes of a sample: all 0 for pointer 0 and for types but 1 to 7; AdLib types keep type, volume and c5 speed.
+fn instrument(file: &[u8], at: usize) -> [u8; SAMPLE_BYTES] {
+    let (b, mut out) = (&file[at..], [0; SAMPLE_BYTES]);
+    if at == 0 || !(1..=7).contains(&b[0]) {
+        return out;
     }
     out[0] = b[0];
     out[1] = b[28];
@@ -159,37 +177,74 @@ fn instrument(file: &[u8], at: usize) -> Result<[u8; SAMPLE_BYTES], u8> {
         out[2] = b[31] & 1;
         out[4..16].copy_from_slice(&b[16..28]);
     }
-    Ok(out)
+    out
 }
 
-/// The cells of a pattern; pointer 0 is an empty one.
-fn pattern(file: &[u8], at: usize) -> Result<Vec<u8>, u8> {
-    let mut cells = EMPTY_CELL.repeat(ROWS * CHANNELS);
-    if at == 0 {
-        return Ok(cells);
+/// An entry of a packed pattern: its row, its first byte and what follows that.
+pub struct Entry<'a> {
+    pub row: usize,
+    pub what: u8,
+    pub data: &'a [u8],
+}
+
+/// How a pattern ends.
+#[derive(Clone, Copy, Debug, PartialEq, Eq)]
+pub enum End {
+    /// Behind its 64th row, here.
+    Whole(usize),
+    /// Cut with so many of the two unread bytes there, or past the file.
+    Unread(usize),
+    /// Cut where an entry or the end of this row would stand.
+    Row(usize),
+    /// Cut within an entry, so many bytes of it there.
+    Entry { what: u8, there: usize },
+}
+
+/// The entries of the pattern at a place, as far as they are whole, and its end.
+pub fn entries(file: &[u8], at: usize) -> (Vec<Entry<'_>>, End) {
+    let mut entries = Vec::new();
+    if file.len() < at + 2 {
+        return (entries, End::Unread(file.len().saturating_sub(at)));
     }
-    let mut packed = file.iter().copied().skip(at + 2);
-    let mut next = || packed.next().ok_or(8);
-    for row in cells.chunks_exact_mut(ROW_BYTES) {
-        loop {
-            let what = next()?;
-            if what == 0 {
-                break;
-            }
-            let mut cell = EMPTY_CELL;
-            if what & 32 != 0 {
-                cell[0] = next()?;
-                cell[1] = next()?;
-            }
-            if what & 64 != 0 {
-                cell[2] = next()?;
-            }
-            if what & 128 != 0 {
-                cell[3] = next()?;
-                cell[4] = next()?;
-            }
-            row[usize::from(what & 31) * CELL..][..CELL].copy_from_slice(&cell);
+    let (mut at, mut row) = (at + 2, 0);
+    while row < ROWS {
+        let Some(&what) = file.get(at) else {
+            return (entries, End::Row(row));
+        };
+        let Some(data) = file.get(at + 1..at + 1 + follow(what)) else {
+            let there = file.len() - at;
+            return (entries, End::Entry { what, there });
+        };
+        if what == 0 {
+            row += 1;
+        } else {
+            entries.push(Entry { row, what, data });
+        }
+        at += 1 + data.len();
+    }
+    (entries, End::Whole(at))
+}
+
+/// How many bytes follow an entry's first byte.
+pub fn follow(what: u8) -> usize {
+    [0, 2, 1, 3, 2, 4, 3, 5][usize::from(what) / 32]
+}
+
+/// The fields of a cell that an entry's first byte names: note, instrument, volume, command, info.
+pub fn fields(what: u8) -> impl Iterator<Item = usize> {
+    let bits = [0x20, 0x20, 0x40, 0x80, 0x80];
+    (0..CELL).filter(move |&field| what & bits[field] != 0)
+}
+
+/// The cells of the pattern at a place, empty for pointer 0: the last entry of a channel is its cell.
+fn cells(file: &[u8], at: usize) -> Vec<u8> {
+    let mut out = EMPTY_CELL.repeat(ROWS * CHANNELS);
+    for entry in entries(file, at).0.iter().filter(|_| at != 0) {
+        let cell = &mut out[entry.row * ROW_BYTES + usize::from(entry.what % 32) * CELL..][..CELL];
+        cell.copy_from_slice(&EMPTY_CELL);
+        for (field, byte) in fields(entry.what).zip(entry.data) {
+            cell[field] = *byte;
         }
     }
-    Ok(cells)
+    out
 }

@@ -1,11 +1,9 @@
 //! What the list covers, told from its cases and not from the plan. Each answer must also be the one that the rules give,
 //! asked one by one.
 
-mod cells;
 mod files;
-mod path;
-mod pitch;
 mod refusals;
+mod rows;
 mod sections;
 
 use crate::calls::Function;
@@ -21,13 +19,6 @@ const MOST_BYTES: u64 = 3_000_000;
 /// So many things are asked for: none may drop out because nothing looks for it.
 const ASKED: usize = 5_748;
 
-/// How often a thing was seen: from states, and along walks from Open; and where it must be.
-#[derive(Default)]
-struct Count {
-    seen: [usize; 2],
-    needed: Option<Needed>,
-}
-
 /// Where a thing must be seen.
 #[derive(Clone, Copy, PartialEq, Eq)]
 enum Needed {
@@ -36,8 +27,27 @@ enum Needed {
     Both,
 }
 
+/// How often a thing was seen: from states, and along walks from Open; and where it must be.
 #[derive(Default)]
-pub struct Tally {
+struct Count {
+    seen: [usize; 2],
+    needed: Option<Needed>,
+}
+
+impl Count {
+    fn is_missing(&self) -> bool {
+        let [states, walks] = self.seen.map(|times| times > 0);
+        match self.needed {
+            None => false,
+            Some(Needed::Anywhere) => !states && !walks,
+            Some(Needed::FromStates) => !states,
+            Some(Needed::Both) => !states || !walks,
+        }
+    }
+}
+
+#[derive(Default)]
+struct Tally {
     things: BTreeMap<String, Count>,
     walking: bool,
     /// Before the name of a thing that a file has.
@@ -47,23 +57,28 @@ pub struct Tally {
 }
 
 impl Tally {
-    fn thing(&mut self, what: impl AsRef<str>) -> &mut Count {
-        self.things
-            .entry(format!("{}{}", self.prefix, what.as_ref()))
-            .or_default()
+    fn thing(&mut self, what: &str) -> &mut Count {
+        self.things.entry(format!("{}{what}", self.prefix)).or_default()
     }
 
     /// Counts a thing, whether it is asked for or not.
     fn note(&mut self, what: impl AsRef<str>) {
         let walking = usize::from(self.walking);
-        let thing = self.thing(what);
+        let thing = self.thing(what.as_ref());
         let first = thing.needed.is_some() && thing.seen == [0; 2];
         thing.seen[walking] += 1;
         self.met += usize::from(first);
     }
 
-    fn need(&mut self, needed: Needed, what: impl IntoIterator<Item = impl AsRef<str>>) {
-        what.into_iter().for_each(|what| self.thing(what).needed = Some(needed));
+    /// Asks for things alike: `{}` in their form stands for each of these.
+    fn need<T: ToString>(&mut self, needed: Needed, form: &str, each: impl IntoIterator<Item = T>) {
+        for one in each {
+            self.thing(&form.replace("{}", &one.to_string())).needed = Some(needed);
+        }
+    }
+
+    fn family<T: ToString>(&mut self, form: &str, each: impl IntoIterator<Item = T>) {
+        self.need(Needed::Anywhere, form, each);
     }
 
     /// Asks for all of these, and counts those that hold.
@@ -100,35 +115,22 @@ pub fn report(dir: &Path) -> Result<String, String> {
     tally.prefix = "";
     files::see_sizes(&mut tally, &cases);
     tally.anywhere([(bytes <= MOST_BYTES, "a list of at most 3,000,000 bytes")]);
-    let (mut out, mut missing, mut asked) = (String::new(), Vec::new(), 0);
-    for (
-        what,
-        Count {
-            seen: [states, walks],
-            needed,
-        },
-    ) in &tally.things
-    {
-        let met = match needed {
-            None => continue,
-            Some(Needed::Anywhere) => states + walks > 0,
-            Some(Needed::FromStates) => *states > 0,
-            Some(Needed::Both) => *states > 0 && *walks > 0,
-        };
-        asked += 1;
-        out += &format!("cover: {what}: {} ({walks} along walks)\n", states + walks);
-        if !met {
-            missing.push(what.as_str());
-        }
+    tally.things.retain(|_, count| count.needed.is_some());
+    let mut out = String::new();
+    for (what, Count { seen, .. }) in &tally.things {
+        out += &format!("cover: {what}: {} ({} along walks)\n", seen[0] + seen[1], seen[1]);
     }
-    if missing.is_empty() && asked == ASKED {
-        Ok(out + &format!("cover: {asked} things are in {} cases, {bytes} bytes\n", cases.len()))
-    } else {
-        Err(format!(
-            "{out}cover: {asked} things of {ASKED} were asked for; missing: {}",
-            missing.join("; ")
-        ))
+    let asked = tally.things.len();
+    tally.things.retain(|_, count| count.is_missing());
+    if tally.things.is_empty() && asked == ASKED {
+        return Ok(out + &format!("cover: {asked} things are in {} cases, {bytes} bytes\n", cases.len()));
     }
+    let missing: Vec<String> = tally.things.into_keys().collect();
+    out += &format!(
+        "cover: {asked} things of {ASKED} were asked for; missing: {}",
+        missing.join("; ")
+    );
+    Err(out)
 }
 
 /// Those of the cases that show something which none before them did, and the first so many.
@@ -145,7 +147,7 @@ pub fn telling(cases: impl Iterator<Item = Case>, first: usize) -> Vec<Case> {
 /// A tally that asks for all that no look names.
 fn asked() -> Tally {
     let mut tally = Tally::default();
-    for needs in [files::needs, path::needs, cells::needs, pitch::needs, refusals::needs] {
+    for needs in [files::needs, rows::needs, sections::needs, refusals::needs] {
         needs(&mut tally);
     }
     tally

@@ -1,12 +1,23 @@
 //! Sections: where they start and end, their rows, and the same rows in parts.
 
-use super::cells::{self, Infos, Seen};
-use super::{Tally, path, pitch};
+use super::rows::{self, Infos, Seen};
+use super::{Needed, Tally};
 use crate::list::Case;
+use crate::player::Channel;
 use crate::player::bridge::walk;
 use crate::rules::MOST_START;
-use crate::state::{CHANNEL_BYTES, HEAD_BYTES, State};
-use crate::tune::{RECORD_BYTES, Record, Tune, le32};
+use crate::state::{CHANNEL_BYTES, HEAD_BYTES, NO_VOICE, RELEASED, State, voice_mark};
+use crate::tune::{RECORD_BYTES, Tune, le32};
+
+pub fn needs(tally: &mut Tally) {
+    for limits in ["on", "off"] {
+        tally.need(
+            Needed::FromStates,
+            &format!("Amiga limits {limits}, fast slides {{}}"),
+            ["on", "off"],
+        );
+    }
+}
 
 /// A section that was not refused, to be found again in parts.
 struct Whole {
@@ -46,7 +57,7 @@ impl Sections {
         see_start(tally, case, &tune, &from);
         let last = walk(&tune, from, case.call.number as usize, |before, entered, record| {
             records.extend(record);
-            self.see_row(tally, &tune, (before, entered, record));
+            self.see_row(tally, &tune, [before, entered], record);
         });
         let mut expected = output.clone();
         expected[..records.len()].copy_from_slice(&records);
@@ -61,7 +72,7 @@ impl Sections {
         Ok(())
     }
 
-    fn see_row(&mut self, tally: &mut Tally, tune: &Tune, (before, entered, record): (&State, &State, &Record)) {
+    fn see_row(&mut self, tally: &mut Tally, tune: &Tune, [before, entered]: [&State; 2], record: &[u8]) {
         let held = before.replaying_for_pattern_delay;
         let skipped = entered.order_index != before.order_index;
         tally.both([(skipped, "0xFE skipped"), (held, "row held"), (!held, "row not held")]);
@@ -70,22 +81,28 @@ impl Sections {
         }
         let (cells, strikes) = (tune.row(record[1].into(), record[2].into()), le32(record, 16));
         let channels = before.channels.iter().zip(&entered.channels).zip(cells).enumerate();
-        let seen = channels.map(|(i, ((a, b), cell))| Seen::new(cell, a, b, strikes >> i & 1 == 1));
-        let seen: Vec<Seen> = seen.collect();
-        path::see_row(tally, &seen, before, entered);
-        for cell in &seen {
-            cells::see(tally, tune, entered.amiga_limits, cell);
-            pitch::see(tally, tune, entered.amiga_limits, cell);
-            self.infos.see(tally, cell);
-        }
+        let seen = channels.map(|(i, ((before, after), cell))| Seen {
+            cell,
+            before,
+            after,
+            struck: strikes >> i & 1 == 1,
+        });
+        rows::see(
+            tally,
+            &mut self.infos,
+            tune,
+            &seen.collect::<Vec<_>>(),
+            [before, entered],
+        );
     }
 
     /// Adds the section to the chain that it goes on from, and looks for a whole one that the chain is.
     fn see_parts(&mut self, tally: &mut Tally, case: &Case, records: Vec<u8>) {
         let [orders, cells, samples, start, _] = case.call.slots.clone();
         let (n, end) = (case.call.number, case.answer.slots[3].clone());
+        let tables = [orders, cells, samples];
         let new = Whole {
-            tables: [orders, cells, samples],
+            tables,
             start,
             n,
             records,
@@ -100,7 +117,7 @@ impl Sections {
                     (chain.end[9] != 0, "section asked on behind the end"),
                 ]);
                 chain.records.extend(&new.records);
-                chain.end.clone_from(&new.end);
+                chain.end = new.end;
                 chain
             }
             _ => new,
@@ -108,15 +125,12 @@ impl Sections {
         let same = |whole: &&Whole| {
             whole.n > n && whole.tables == chain.tables && whole.start == chain.start && whole.end == chain.end
         };
-        let whole = self
+        let found = self
             .wholes
             .iter()
             .find(same)
-            .filter(|whole| whole.records == chain.records);
-        let (found, odd) = (
-            whole.is_some(),
-            whole.is_some_and(|whole| State::decode(&whole.start).start > 0),
-        );
+            .is_some_and(|whole| whole.records == chain.records);
+        let odd = found && State::decode(&chain.start).start > 0;
         tally.anywhere([
             (found && n == 7, "section in parts of 7 rows"),
             (found && n == 1, "section in parts of 1 row"),
@@ -132,81 +146,115 @@ impl Sections {
 }
 
 fn see_start(tally: &mut Tally, case: &Case, tune: &Tune, state: &State) {
-    let rows = case.answer.number & 0xFFFF;
-    let (n, [.., bytes, output]) = (case.call.number, &case.call.slots);
+    let (rows, n) = (case.answer.number & 0xFFFF, case.call.number);
+    let [.., bytes, output] = &case.call.slots;
     let spare = output.len() > n as usize * RECORD_BYTES;
-    let edge = state.row == 63 && state.loop_start_row == 63;
+    let edge = [state.row, state.loop_start_row, state.speed, state.bpm] == [63, 63, 1, 32];
     tally.both([(true, "section"), (rows >= 40, "section of 40 rows or more")]);
     tally.anywhere([
         (spare, "output with spare bytes"),
         (!spare, "output without a spare byte"),
         (n == 0, "section of no rows"),
         (state.ended && n > 0, "section from an ended state"),
-        (
-            edge && state.speed == 1 && state.bpm == 32 && state.start == MOST_START,
-            "state at the edge of rule 11",
-        ),
+        (edge && state.start == MOST_START, "state at the edge of rule 11"),
         (tune.cells.is_empty(), "tune without a pattern"),
         (bytes[2] == 0 && bytes[3] != 0, "absent loop order with a byte"),
         (bytes[8] > 1 || bytes[13] > 1, "flag above 1"),
         (bytes[15] != 0 && bytes[20] != 0, "spare bytes of a state"),
     ]);
-    path::see_state(tally, tune, state);
-    for (channel, part) in state
+    see_state(tally, tune, state);
+    let parts = bytes[HEAD_BYTES..].chunks_exact(CHANNEL_BYTES);
+    state
         .channels
         .iter()
-        .zip(bytes[HEAD_BYTES..].chunks_exact(CHANNEL_BYTES))
-    {
-        cells::see_channel(tally, channel);
-        let nan = channel.sample_pos.is_nan();
-        tally.anywhere([
-            (nan, "sample position not a number"),
-            (
-                nan && part[8..16] != channel.sample_pos.to_le_bytes(),
-                "sample position not a number, other bits",
-            ),
-            (part[19] > 1 || part[30] > 1, "flag above 1"),
-            (part[31] > 3 && part[32] > 3, "waveform above 3"),
-            (part[25] == 0 && part[26..30] != [0; 4], "absent delay with bytes"),
-            (part[45..48] != [0; 3], "spare bytes of a channel"),
-            (
-                part[48 + 19] != 0 && part[75..80] != [0; 5],
-                "memory slots that nobody reads",
-            ),
-        ]);
-    }
+        .zip(parts)
+        .for_each(|(channel, part)| see_channel(tally, channel, part));
 }
 
-fn see_given(tally: &mut Tally, tune: &Tune, records: &[u8], last: &State) {
+fn see_state(tally: &mut Tally, tune: &Tune, state: &State) {
+    let (held, hold) = (state.replaying_for_pattern_delay, state.pattern_delay_remaining > 0);
+    let (order, owner) = (state.order_index, state.loop_pattern_order);
+    tally.in_states([
+        (state.loop_count == Some(0), "loop count 0"),
+        (owner.is_none(), "loop order absent"),
+        (owner.is_some_and(|owner| owner != order), "loop order another"),
+        (hold && !held, "hold without held"),
+        (held && !hold, "held without hold"),
+        (usize::from(order) >= tune.orders.len(), "order past the list"),
+        (state.speed == 1, "speed 1"),
+        (state.speed == 255, "speed 255"),
+        (state.bpm == 32, "tempo 32"),
+        (state.start == MOST_START, "start 2^62"),
+        (state.rate == 1, "rate 1"),
+        (state.rate == 100_000, "rate 100000"),
+        (tune.orders.len() == 1, "tune of 1 order"),
+        (tune.orders.len() == 255, "tune of 255 orders"),
+        (tune.samples.is_empty(), "tune without samples"),
+        (tune.sample_count() == 99, "tune of 99 samples"),
+        (state.global_volume > 64, "global volume above 64"),
+    ]);
+    let [limits, slides] = [state.amiga_limits, state.fast_slides].map(|on| if on { "on" } else { "off" });
+    tally.note(format!("Amiga limits {limits}, fast slides {slides}"));
+}
+
+/// A channel of the state that a section starts from, and its bytes.
+fn see_channel(tally: &mut Tally, ch: &Channel, part: &[u8]) {
+    let (frequency, voice) = (ch.frequency, voice_mark(ch));
+    let nan = ch.sample_pos.is_nan();
+    let other_bits = nan && part[8..16] != ch.sample_pos.to_le_bytes();
+    tally.in_states([
+        (frequency == f32::INFINITY, "frequency infinite"),
+        (frequency == f32::NEG_INFINITY, "frequency minus infinite"),
+        (frequency.to_bits() == 1 << 31, "frequency -0.0"),
+        (frequency.is_subnormal(), "frequency subnormal"),
+        (frequency < 0.0 && frequency.is_finite(), "frequency negative"),
+        (ch.volume > 64, "volume above 64"),
+        (ch.pan > 15, "pan above 15"),
+        (ch.last_note == 0xFE, "last note 0xFE"),
+        (voice != NO_VOICE && !ch.adlib, "voice on a channel that is not AdLib"),
+        (voice == RELEASED, "voice released before"),
+    ]);
     tally.anywhere([
-        (last.ended, "section that ends the tune"),
+        (nan, "sample position not a number"),
+        (other_bits, "sample position not a number, other bits"),
+        (part[19] > 1 || part[30] > 1, "flag above 1"),
+        (part[31] > 3 && part[32] > 3, "waveform above 3"),
+        (part[25] == 0 && part[26..30] != [0; 4], "absent delay with bytes"),
+        (part[45..48] != [0; 3], "spare bytes of a channel"),
         (
-            last.ended && !records.is_empty(),
-            "section that ends the tune behind rows",
+            part[48 + 19] != 0 && part[75..80] != [0; 5],
+            "memory slots that nobody reads",
         ),
-        (!last.ended && !records.is_empty(), "section that does not end the tune"),
+    ]);
+}
+
+/// The state behind a section, how the tune has ended there, and the records.
+fn see_given(tally: &mut Tally, tune: &Tune, records: &[u8], last: &State) {
+    let (ended, rows) = (last.ended, !records.is_empty());
+    tally.anywhere([
+        (ended, "section that ends the tune"),
+        (ended && rows, "section that ends the tune behind rows"),
+        (!ended && rows, "section that does not end the tune"),
         (last.start > MOST_START, "start left above 2^62"),
         (records.get(3) == Some(&1), "row held first"),
     ]);
-    if last.ended {
-        path::see_end(tally, tune, last);
-    }
+    let named = tune.orders.get(usize::from(last.order_index));
+    let missing = named.is_some_and(|&order| order != 0xFF);
+    tally.both([
+        (ended && named.is_none(), "ended past the list"),
+        (ended && named == Some(&0xFF), "ended at 0xFF"),
+        (ended && missing, "ended at a missing pattern"),
+    ]);
     let records: Vec<&[u8]> = records.chunks_exact(RECORD_BYTES).collect();
     for record in &records {
         let strikes = le32(record, 16).count_ones();
-        let mut channels = record[24..].chunks_exact(16);
+        let has = |holds: fn(&[u8]) -> bool| record[24..].chunks_exact(16).any(holds);
         tally.anywhere([
             (strikes == 0, "no strike"),
             (strikes > 1, "several strikes"),
-            (
-                channels.clone().any(|channel| channel[15] == 1),
-                "voice keyed in a record",
-            ),
-            (
-                channels.clone().any(|channel| channel[15] == 2),
-                "voice released in a record",
-            ),
-            (channels.any(|channel| channel[13] != 0), "delay"),
+            (has(|channel| channel[15] == 1), "voice keyed in a record"),
+            (has(|channel| channel[15] == 2), "voice released in a record"),
+            (has(|channel| channel[13] != 0), "delay"),
         ]);
     }
     records.windows(2).for_each(|pair| see_pair(tally, pair[0], pair[1]));

@@ -10,7 +10,7 @@ use crate::list::Case;
 use crate::random::Random;
 use crate::tune::{PATTERN_BYTES, RECORD_BYTES};
 
-pub use pitch::{C5_SPEEDS, FREQUENCIES, PERIODS};
+pub use pitch::{C5_SPEEDS, PERIODS, frequencies};
 pub use rows::{free_tune, planned_tune};
 
 const FILE_SEEDS: u64 = 6_000;

@@ -34,7 +34,7 @@ const LOOPS: [[u32; 3]; 13] = [
 /// Frequencies, by their bits: zeros, the smallest, ones, the greatest, infinities, with either sign, and some that
 /// tunes have.
 #[rustfmt::skip]
-pub const FREQUENCIES: [u32; 20] = [
+const FREQUENCIES: [u32; 20] = [
     0x0000_0000, 0x8000_0000, 0x0000_0001, 0x8000_0001, 0x007f_ffff, 0x0080_0000, 0x8080_0000, 0x3f80_0000,
     0xbf80_0000, 0x3f80_0001, 0x3fff_ffff, 0x4602_ac00, 0x45d1_3000, 0x477f_ff00, 0xc602_ac00, 0x7f00_0000,
     0x7f7f_ffff, 0xff7f_ffff, 0x7f80_0000, 0xff80_0000,
@@ -114,7 +114,7 @@ fn slides(asked: &mut Asked) {
 }
 
 /// As many frequencies as a row has channels: six about each Amiga limit among them.
-fn frequencies() -> Vec<u32> {
+pub fn frequencies() -> Vec<u32> {
     let edges = pitch::limits().into_iter().flat_map(|limit| limit - 3..limit + 3);
     FREQUENCIES.into_iter().chain(edges).collect()
 }

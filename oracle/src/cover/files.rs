@@ -1,0 +1,441 @@
+//! Files: the rules 1 to 8 alone and together, their edges, and what a good file has of all that the reading turns on.
+
+use super::Tally;
+use crate::calls::Function;
+use crate::list::Case;
+use crate::reader::{self, End, Entry, INSTRUMENT_BYTES, Lent, Lists};
+use crate::tune::{CHANNELS, ROWS, le16, le32};
+use std::ops::Range;
+
+/// The instrument types to be seen.
+const KINDS: [u8; 11] = [0, 1, 2, 3, 4, 5, 6, 7, 8, 9, 255];
+const LEAST_FILES: usize = 600;
+const MOST_FILE_BYTES: usize = 8_192;
+
+/// A file with its lists, what Read is lent, and the rules that are broken.
+struct File<'a> {
+    bytes: &'a [u8],
+    lists: Lists,
+    lent: Lent,
+    broken: Vec<u8>,
+}
+
+impl File<'_> {
+    fn is_good(&self) -> bool {
+        self.broken.is_empty()
+    }
+}
+
+pub fn needs(tally: &mut Tally) {
+    tally.prefix = "file: ";
+    need_edges(tally);
+    need_sights(tally);
+    tally.prefix = "";
+}
+
+/// The rules 1 to 8 and their edges.
+fn need_edges(tally: &mut Tally) {
+    tally.family("Measure {}", 0..=5);
+    tally.family("Read {}", 0..=8);
+    tally.family("byte {} of SCRM alone wrong", 44..48);
+    tally.family("{} bytes", [0, 1, 95, 96]);
+    tally.family("{} orders", [0, 255, 256, 65_535]);
+    tally.family("{} instruments", [99, 100, 65_535]);
+    tally.family("{} patterns", [100, 101, 65_535]);
+    tally.family("rate {}", [0, 1, 100_000, 100_001, u32::MAX]);
+    tally.family("rule {} alone", 1..=8);
+    tally.family("rule 1 wins over {}", 2..=6);
+    for rule in 2..8 {
+        tally.family(&format!("rules {rule} and {{}} alone"), rule + 1..=8);
+    }
+    for flags in (0..8).map(|flags| flags * 32) {
+        let there = 1..=reader::follow(flags);
+        tally.family(&format!("entry of flags {flags:#04x} cut behind {{}}"), there);
+    }
+    tally.family("instrument of type {} one byte past", KINDS);
+    for table in ["orders", "samples", "cells"] {
+        tally.family(&format!("lent {table} one {{}}"), ["short", "long"]);
+    }
+}
+
+fn need_sights(tally: &mut Tally) {
+    tally.family("good: {} patterns", 0..=6);
+    tally.family("good: {} orders", [1, 255]);
+    tally.family("good: {} instruments", [0, 99]);
+    for pan in ["its own pan", "bit 5 clear", "a given pan"] {
+        tally.family(&format!("setting {{}} with {pan}"), 0..=255);
+    }
+    tally.family("pan byte {}", 0..=255);
+    tally.family("flag bit {} alone", 0..16);
+    tally.family("no fast slides, version {}", ["0x1301", "0x12ff", "0x13"]);
+    tally.family("instrument type {}", KINDS);
+    tally.family("entry {}", (1..=255).map(|what| format!("{what:#04x}")));
+    for first in 0..8 {
+        tally.family(&format!("channel twice, flags {first} then {{}}"), 0..8);
+    }
+    tally.family("field {} of an entry 0", 0..5);
+    for part in ["instrument", "pattern"] {
+        let places = [" pointer 0", " in the header", " in the lists", " from byte 4,096 up"];
+        tally.family(&format!("{part}{{}}"), places);
+        tally.family(&format!("{part}s {{}}"), ["shared", "overlapping"]);
+    }
+}
+
+/// The answer is that of the first broken rule.
+pub fn see(tally: &mut Tally, case: &Case) -> Result<(), String> {
+    let (call, refusal) = (&case.call, case.answer.refusal());
+    let (bytes, lent) = (&call.slots[0][..], call.lent());
+    let broken = reader::broken(bytes, &lent);
+    let (name, most) = if call.function == Function::Read {
+        ("Read", 8)
+    } else {
+        ("Measure", 5)
+    };
+    tally.note(format!("{name} {refusal}"));
+    if refusal != broken.first().copied().filter(|&rule| rule <= most).unwrap_or(0) {
+        return Err(format!("refused by {refusal}, but broken are {broken:?}"));
+    }
+    if call.function == Function::Measure {
+        return Ok(());
+    }
+    tally.note(format!("{} bytes", bytes.len()));
+    see_rules(tally, &broken);
+    if broken.is_empty() {
+        tally.note(format!("rate {}", call.number));
+    }
+    if let Some(lists) = Lists::of(bytes).filter(|_| bytes.len() >= 96) {
+        see_file(
+            tally,
+            &File {
+                bytes,
+                lists,
+                lent,
+                broken,
+            },
+        );
+    }
+    Ok(())
+}
+
+fn see_rules(tally: &mut Tally, broken: &[u8]) {
+    match *broken {
+        [rule] => tally.note(format!("rule {rule} alone")),
+        [1, ref others @ ..] => others
+            .iter()
+            .for_each(|other| tally.note(format!("rule 1 wins over {other}"))),
+        [rule, other] => tally.note(format!("rules {rule} and {other} alone")),
+        _ => {}
+    }
+}
+
+fn see_file(tally: &mut Tally, file: &File) {
+    let wrong: Vec<usize> = (44..48).filter(|&at| file.bytes[at] != b"SCRM"[at - 44]).collect();
+    if let [at] = wrong[..] {
+        tally.note(format!("byte {at} of SCRM alone wrong"));
+    }
+    if file.broken.first().is_none_or(|&first| first > 2) {
+        see_counts(tally, "", &file.lists);
+    }
+    see_head(tally, file);
+    if file.broken == [6] {
+        see_lent(tally, file);
+    }
+    if file.broken.iter().all(|&rule| rule >= 7) {
+        see_instrument_ends(tally, file);
+        see_pattern_ends(tally, file);
+    }
+    if file.is_good() {
+        see_good(tally, file);
+    }
+}
+
+fn see_counts(tally: &mut Tally, good: &str, lists: &Lists) {
+    tally.note(format!("{good}{} orders", lists.orders));
+    tally.note(format!("{good}{} instruments", lists.instruments));
+    tally.note(format!("{good}{} patterns", lists.patterns));
+}
+
+/// Where the lists end, and the levels.
+fn see_head(tally: &mut Tally, file: &File) {
+    let (length, end, pans) = (file.bytes.len(), file.lists.end(), file.lists.has_pans);
+    let (good, alone) = (file.is_good(), file.broken == [5]);
+    let ends = end == length && good;
+    let short = end == length + 1 && file.broken.first() == Some(&4);
+    let [volume, speed, tempo] = [48, 49, 50].map(|at| file.bytes[at]);
+    tally.anywhere([
+        (ends && !pans, "lists end with the file, good"),
+        (ends && pans, "lists end with the file, with pans, good"),
+        (short && !pans, "lists one byte short"),
+        (short && pans, "lists one byte short, with pans"),
+        (alone && speed == 0, "speed 0"),
+        (alone && tempo == 31, "tempo 31"),
+        (alone && volume == 65, "volume 65"),
+        (good && tempo == 32, "tempo 32, good"),
+        (good && volume == 64, "volume 64, good"),
+    ]);
+}
+
+/// One table alone is a byte off.
+fn see_lent(tally: &mut Tally, file: &File) {
+    let (lent, needs) = (file.lent, file.lists.needs());
+    let tables = [
+        ("orders", lent.orders, needs.orders),
+        ("samples", lent.samples, needs.samples),
+        ("cells", lent.cells, needs.cells),
+    ];
+    let off: Vec<_> = tables.into_iter().filter(|(_, lent, needs)| lent != needs).collect();
+    match off[..] {
+        [(table, lent, needs)] if lent + 1 == needs => tally.note(format!("lent {table} one short")),
+        [(table, lent, needs)] if lent == needs + 1 => tally.note(format!("lent {table} one long")),
+        _ => {}
+    }
+}
+
+fn see_instrument_ends(tally: &mut Tally, file: &File) {
+    let length = file.bytes.len();
+    for at in file.lists.instrument_places(file.bytes) {
+        let (end, wrapped) = (at + INSTRUMENT_BYTES, at & 0xFFFF);
+        let held = at > 0xFFFF && wrapped != 0 && !reader::is_cut_instrument(file.bytes, wrapped);
+        let ends = end == length && file.is_good();
+        if end == length + 1 {
+            tally.note(format!("instrument of type {} one byte past", file.bytes[at]));
+        }
+        tally.anywhere([
+            (ends, "instrument ends with the file, good"),
+            (at >= length, "instrument's type past the file"),
+            (held, "instrument pointer that 16 bits would cut to the file"),
+        ]);
+    }
+}
+
+fn see_pattern_ends(tally: &mut Tally, file: &File) {
+    let (instruments, patterns) = (
+        file.lists.instrument_places(file.bytes),
+        file.lists.pattern_places(file.bytes),
+    );
+    let is_cut = |&at: &usize| reader::is_cut_pattern(file.bytes, at);
+    for at in patterns.iter().copied().filter(|&at| at != 0) {
+        let wrapped = at & 0xFFFF;
+        let held = at > 0xFFFF && wrapped != 0 && !is_cut(&wrapped);
+        tally.anywhere([(held, "pattern pointer that 16 bits would cut to the file")]);
+        see_pattern_end(tally, file, at);
+    }
+    let cut = instruments
+        .iter()
+        .position(|&at| reader::is_cut_instrument(file.bytes, at));
+    let late = cut.is_some_and(|first| first > 0 && first + 1 == instruments.len());
+    let both = late && patterns.first().is_some_and(is_cut) && file.broken == [7, 8];
+    tally.anywhere([(both, "late instrument wins over early pattern")]);
+}
+
+/// How the pattern at a place ends.
+fn see_pattern_end(tally: &mut Tally, file: &File, at: usize) {
+    let (entries, end) = reader::entries(file.bytes, at);
+    let length = file.bytes.len();
+    if let End::Entry { what, there } = end {
+        tally.note(format!("entry of flags {:#04x} cut behind {there}", what & 0xE0));
+    }
+    let first = end == End::Row(0) && length == at + 2;
+    let behind = entries.last().is_some_and(|entry| end == End::Row(entry.row));
+    let ends = end == End::Whole(length) && file.is_good();
+    tally.anywhere([
+        (ends, "pattern ends with the file, good"),
+        (end == End::Unread(0), "pattern past the file"),
+        (matches!(end, End::Unread(1..)), "pattern cut within the unread bytes"),
+        (first, "pattern cut right behind the unread bytes"),
+        (behind, "pattern cut right behind an entry"),
+        (end == End::Row(63), "pattern cut before its last row's end"),
+    ]);
+}
+
+/// What a good file has.
+fn see_good(tally: &mut Tally, file: &File) {
+    let orders = &file.bytes[96..96 + file.lists.orders];
+    see_counts(tally, "good: ", &file.lists);
+    tally.anywhere([
+        (orders.contains(&0xFE), "good: 0xFE among the orders"),
+        (orders.contains(&0xFF), "good: 0xFF among the orders"),
+    ]);
+    see_places(tally, file);
+    see_channels(tally, file.bytes, &file.lists);
+    see_switches(tally, file.bytes);
+    let instruments = file
+        .lists
+        .instrument_places(file.bytes)
+        .into_iter()
+        .filter(|&at| at != 0);
+    instruments.for_each(|at| see_instrument(tally, &file.bytes[at..]));
+    let patterns = file.lists.pattern_places(file.bytes).into_iter().filter(|&at| at != 0);
+    patterns.for_each(|at| see_pattern(tally, file.bytes, at));
+}
+
+/// Where instruments and patterns lie: behind the lists, in each other, or before.
+fn see_places(tally: &mut Tally, file: &File) {
+    let (bytes, lists) = (file.bytes, &file.lists);
+    let end = |at| match reader::entries(bytes, at).1 {
+        End::Whole(end) => end,
+        _ => at,
+    };
+    let instruments = lists
+        .instrument_places(bytes)
+        .into_iter()
+        .map(|at| at..at + INSTRUMENT_BYTES);
+    let patterns = lists.pattern_places(bytes).into_iter().map(|at| at..end(at));
+    let (instruments, patterns): (Vec<_>, Vec<_>) = (instruments.collect(), patterns.collect());
+    see_parts(tally, "instrument", &instruments, lists);
+    see_parts(tally, "pattern", &patterns, lists);
+    let inside = |part: &Range<usize>, of: &[Range<usize>]| {
+        part.start >= lists.end() && of.iter().any(|other| other.start != 0 && other.contains(&part.start))
+    };
+    for part in &instruments {
+        tally.anywhere([(inside(part, &patterns), "instrument in a pattern")]);
+    }
+    for part in &patterns {
+        let behind = part.start >= lists.end() && part.end < bytes.len();
+        tally.anywhere([
+            (inside(part, &instruments), "pattern in an instrument"),
+            (behind, "bytes behind a pattern"),
+        ]);
+    }
+}
+
+fn see_parts(tally: &mut Tally, name: &str, parts: &[Range<usize>], lists: &Lists) {
+    for (i, part) in parts.iter().enumerate() {
+        match part.start {
+            0 => tally.note(format!("{name} pointer 0")),
+            1..96 => tally.note(format!("{name} in the header")),
+            start if start < lists.end() => tally.note(format!("{name} in the lists")),
+            4_096.. => tally.note(format!("{name} from byte 4,096 up")),
+            _ => {}
+        }
+        for other in parts[..i].iter().filter(|other| part.start != 0 && other.start != 0) {
+            if other.start == part.start {
+                tally.note(format!("{name}s shared"));
+            } else if other.start < part.end && part.start < other.end {
+                tally.note(format!("{name}s overlapping"));
+            }
+        }
+    }
+}
+
+fn see_channels(tally: &mut Tally, file: &[u8], lists: &Lists) {
+    let behind = file.get(lists.pans()..lists.pans() + CHANNELS);
+    let marked = behind.is_some_and(|bytes| bytes.iter().all(|byte| byte & 0x20 != 0));
+    tally.anywhere([(!lists.has_pans && marked, "no pans, bit 5 behind the lists")]);
+    for (i, setting) in file[64..96].iter().enumerate() {
+        if !lists.has_pans {
+            tally.note(format!("setting {setting} with its own pan"));
+            continue;
+        }
+        let (pan, place) = (file[lists.pans() + i], setting & 0x7F);
+        let given = pan & 0x20 != 0;
+        let whose = if given { "a given pan" } else { "bit 5 clear" };
+        tally.note(format!("pan byte {pan}"));
+        tally.note(format!("setting {setting} with {whose}"));
+        tally.anywhere([
+            (given && place < 8, "pan given, setting left"),
+            (given && (8..16).contains(&place), "pan given, setting right"),
+            (given && (16..32).contains(&place), "pan given, setting AdLib"),
+            (given && place >= 32, "pan given, setting another"),
+        ]);
+    }
+}
+
+fn see_switches(tally: &mut Tally, file: &[u8]) {
+    let (flags, version) = (le16(file, 38), le16(file, 40));
+    let (by_flag, by_version) = (flags & 64 != 0, version == 0x1300);
+    if flags.is_power_of_two() {
+        tally.note(format!("flag bit {} alone", flags.trailing_zeros()));
+    }
+    if !by_flag && !by_version {
+        tally.note(format!("no fast slides, version {version:#x}"));
+    }
+    let [volume, speed, tempo] = [48, 49, 50].map(|at| file[at]);
+    tally.anywhere([
+        (by_flag && !by_version, "fast slides by flag alone"),
+        (!by_flag && by_version, "fast slides by version alone"),
+        (by_flag && by_version, "fast slides by both"),
+        (flags & 0xFF10 == 16, "Amiga limits, high byte 0"),
+        (flags & 0xFF10 == 0x1000, "no Amiga limits, high byte 0x10"),
+        (speed == 1, "speed 1"),
+        (speed == 255, "speed 255"),
+        (tempo == 255, "tempo 255"),
+        (volume == 0, "volume 0"),
+        (file[29] != 0x10, "file type byte not 0x10"),
+    ]);
+}
+
+fn see_instrument(tally: &mut Tally, part: &[u8]) {
+    let (kind, flags) = (part[0], part[31]);
+    let (pcm, adlib, other_bits) = (kind == 1, (2..=7).contains(&kind), flags != 0 && flags & 1 == 0);
+    tally.note(format!("instrument type {kind}"));
+    tally.anywhere([
+        (pcm && flags == 0, "PCM, byte 31 of 0"),
+        (pcm && flags == 1, "PCM, byte 31 with bit 0 alone"),
+        (pcm && flags == 255, "PCM, byte 31 with all bits"),
+        (pcm && other_bits, "PCM, byte 31 with other bits alone"),
+        (adlib && flags & 1 != 0, "AdLib, byte 31 with bit 0"),
+        (pcm && part[28] > 64, "volume above 64"),
+        (pcm && le32(part, 16) > 65_535, "length above 65,535"),
+        (pcm && le32(part, 32) > 65_535, "c5 speed above 65,535"),
+    ]);
+}
+
+fn see_pattern(tally: &mut Tally, file: &[u8], at: usize) {
+    let (entries, end) = reader::entries(file, at);
+    let End::Whole(end) = end else { return };
+    let (word, right) = (usize::from(le16(file, at)), end - at);
+    let told = word != 0 && word != 65_535;
+    tally.anywhere([
+        (entries.is_empty(), "pattern without entries"),
+        (word == 0, "pattern word 0"),
+        (word == 65_535, "pattern word 65,535"),
+        (told && word == right, "pattern word right"),
+        (told && word < right, "pattern word too small"),
+        (told && word > right, "pattern word too large"),
+    ]);
+    for row in 0..ROWS {
+        let of_row: Vec<_> = entries.iter().filter(|entry| entry.row == row).collect();
+        see_row(tally, &of_row);
+    }
+    for entry in &entries {
+        tally.note(format!("entry {:#04x}", entry.what));
+        for (field, _) in reader::fields(entry.what)
+            .zip(entry.data)
+            .filter(|(_, byte)| **byte == 0)
+        {
+            tally.note(format!("field {field} of an entry 0"));
+        }
+    }
+}
+
+fn see_row(tally: &mut Tally, entries: &[&Entry]) {
+    let mut times = [0; CHANNELS];
+    for (i, entry) in entries.iter().enumerate() {
+        times[usize::from(entry.what % 32)] += 1;
+        let mut earlier = entries[..i].iter().rev();
+        if let Some(first) = earlier.find(|earlier| earlier.what % 32 == entry.what % 32) {
+            let [first, then] = [first, entry].map(|entry| entry.what / 32);
+            tally.note(format!("channel twice, flags {first} then {then}"));
+        }
+    }
+    tally.anywhere([
+        (entries.is_empty(), "row without entries"),
+        (entries.len() > CHANNELS, "row of more than 32 entries"),
+        (times.iter().all(|&times| times > 0), "row of 32 channels"),
+        (times.iter().any(|&times| times > 2), "channel named three times"),
+    ]);
+}
+
+/// Enough files, most of them small.
+pub fn see_sizes(tally: &mut Tally, cases: &[Case]) {
+    let read = cases.iter().filter(|case| case.call.function == Function::Read);
+    let sizes: Vec<usize> = read.map(|case| case.call.slots[0].len()).collect();
+    let small = sizes.iter().filter(|&&size| size < 3_072).count();
+    let short = sizes.iter().all(|&size| size <= MOST_FILE_BYTES);
+    tally.anywhere([
+        (sizes.len() >= LEAST_FILES, "600 files or more"),
+        (short, "files of at most 8,192 bytes"),
+        (2 * small > sizes.len(), "half of the files below 3 KB"),
+    ]);
+}
