@@ -24,7 +24,7 @@ pub fn run(kind: &Kind, work: &str) -> bool {
     let rows = walk(&tune, SECTION, &mut output);
     let mut recorded = vec![0; rows * RECORD_BYTES];
     let mut original = Original::new(&theirs);
-    let opened = open(&theirs);
+    let opened = open(&theirs).encode();
     let per = match work {
         "path" | "library" | "original" => rows,
         "read" | "parse" => 1,

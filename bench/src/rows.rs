@@ -47,7 +47,7 @@ fn same(theirs: &tune::Tune) -> bool {
         .expect("the state is ours")
         .rows;
     let mut expected = vec![0; MOST * RECORD_BYTES];
-    let original = Original::new(theirs).rows_recorded(&open(theirs), MOST, &mut expected);
+    let original = Original::new(theirs).rows_recorded(&open(theirs).encode(), MOST, &mut expected);
     for record in output.chunks_exact_mut(RECORD_BYTES) {
         for channel in record[24..].chunks_exact_mut(16) {
             channel[15] = channel[15].min(1);
@@ -73,7 +73,7 @@ fn times(theirs: &tune::Tune) -> [f64; 5] {
     let tune = ours(theirs);
     let mut original = Original::new(theirs);
     let mut again = Original::new(theirs);
-    let opened = open(theirs);
+    let opened = open(theirs).encode();
     let mut output = vec![0; SECTION as usize * RECORD_BYTES];
     let rows = walk(&tune, SECTION, &mut output);
     let mut floor = output.clone();

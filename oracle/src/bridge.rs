@@ -1,12 +1,14 @@
 //! The original's player, run row by row. build.rs makes this a part of the patched player.rs, so that it sees its
 //! private functions and fields.
 
-use super::{Channel, Jump, PlayerState};
-use crate::opl2::{AdLibInstrument, OperatorCore};
+use super::{Channel, PlayerState};
+use crate::header::parse_header;
+use crate::layout::{self, Layout};
+use crate::opl2::AdLibInstrument;
 use crate::pattern::{Cell, Pattern};
 use crate::samples::{Body, SampleBody};
-use crate::state::{self, SAMPLE_RATE, State, voice_mark};
-use crate::tune::{CHANNELS, RECORD_BYTES, ROWS, Record, Sample, Tune};
+use crate::state::{Kept, SAMPLE_RATE, STATE_BYTES, State, lay_rest, voice_mark};
+use crate::tune::{CHANNELS, RECORD_BYTES, ROWS, Record, Sample, Tune, WORKED};
 
 /// Put into every `sample_pos` before a row is entered. `enter_row` never reads that field and writes it exactly where
 /// it starts a note (a whole number, so never this NaN); so the channels where it is gone afterwards are the struck ones.
@@ -17,38 +19,23 @@ pub struct Original {
     player: PlayerState,
     rate: u32,
     start: u64,
-    kept: [[u8; 6]; CHANNELS],
+    kept: Kept,
 }
 
 impl Original {
+    /// The constructor is handed the worked example's header; every field that a row reads is set behind it.
     pub fn new(tune: &Tune) -> Original {
         let patterns = (0..tune.patterns()).map(|p| pattern(tune, p)).collect();
         let samples = (0..tune.sample_count()).map(|i| sample(&tune.sample(i))).collect();
-        let player = player(samples, patterns, tune.orders.clone());
+        let header = parse_header(WORKED).expect("the worked example is good");
+        let mut player = PlayerState::new(&header, samples, patterns, SAMPLE_RATE);
+        player.order.clone_from(&tune.orders);
+        player.channels = vec![Channel::default(); CHANNELS];
         Original { player, rate: 1, start: 0, kept: [[0; 6]; CHANNELS] }
     }
 
-    /// `enter_row` on a state that has not ended; its record where that does not end the tune.
-    pub fn enter(&mut self, before: &State) -> (State, Option<Record>) {
-        self.set(before);
-        let record = self.enter_row().map(|strikes| {
-            let mut record = [0; RECORD_BYTES];
-            self.put_record(strikes, &mut record);
-            record
-        });
-        (self.state(), record)
-    }
-
-    /// The waiting global volume acts, then `next_row`, on an entered state. The card start grows here.
-    pub fn leave(&mut self, entered: &State) -> State {
-        self.set(entered);
-        self.start += u64::from(self.row_length());
-        self.leave_row();
-        self.state()
-    }
-
     /// Up to `limit` rows from a state on by the player alone; how many there were. For timing.
-    pub fn rows_alone(&mut self, from: &State, limit: usize) -> usize {
+    pub fn rows_alone(&mut self, from: &[u8], limit: usize) -> usize {
         self.set(from);
         let mut rows = 0;
         while !self.player.ended && rows < limit {
@@ -62,8 +49,8 @@ impl Original {
         rows
     }
 
-    /// 01's Section: the same with a record of each row in `output`. `state` gives the state behind them.
-    pub fn rows_recorded(&mut self, from: &State, limit: usize, output: &mut [u8]) -> usize {
+    /// 01's Section: the same with a record of each row in `output`. `bytes` gives the state behind them.
+    pub fn rows_recorded(&mut self, from: &[u8], limit: usize, output: &mut [u8]) -> usize {
         self.set(from);
         let mut rows = 0;
         let mut parts = output.chunks_exact_mut(RECORD_BYTES);
@@ -128,51 +115,27 @@ impl Original {
         }
     }
 
-    fn set(&mut self, state: &State) {
-        let player = &mut self.player;
-        player.order_index = state.order_index;
-        player.row = state.row;
-        player.loop_pattern_order = state.loop_pattern_order;
-        player.loop_count = state.loop_count;
-        player.loop_start_row = state.loop_start_row;
-        player.pattern_delay_remaining = state.pattern_delay_remaining;
-        player.replaying_for_pattern_delay = state.replaying_for_pattern_delay;
-        player.ended = state.ended;
-        player.speed = state.speed;
-        player.bpm = state.bpm;
-        player.global_volume = state.global_volume;
-        player.pending_global_vol = state.pending_global_vol;
-        player.pending_jump = state.pending_jump.map(|jump| Jump { order: jump.order, row: jump.row });
-        player.amiga_limits = state.amiga_limits;
-        player.fast_slides = state.fast_slides;
-        player.channels.clone_from_slice(&state.channels);
-        (self.rate, self.start, self.kept) = (state.rate, state.start, state.kept);
+    fn set(&mut self, state: &[u8]) {
+        layout::read(state, |layout| self.lay(layout));
+        (self.player.pending_jump, self.player.pending_global_vol) = (None, None);
     }
 
-    /// Where the player stands.
-    pub fn state(&self) -> State {
-        let player = &self.player;
-        State {
-            order_index: player.order_index,
-            row: player.row,
-            loop_pattern_order: player.loop_pattern_order,
-            loop_count: player.loop_count,
-            loop_start_row: player.loop_start_row,
-            pattern_delay_remaining: player.pattern_delay_remaining,
-            replaying_for_pattern_delay: player.replaying_for_pattern_delay,
-            ended: player.ended,
-            speed: player.speed,
-            bpm: player.bpm,
-            global_volume: player.global_volume,
-            pending_global_vol: player.pending_global_vol,
-            pending_jump: player.pending_jump.map(|jump| state::Jump { order: jump.order, row: jump.row }),
-            amiga_limits: player.amiga_limits,
-            fast_slides: player.fast_slides,
-            channels: std::array::from_fn(|i| player.channels[i].clone()),
-            rate: self.rate,
-            start: self.start,
-            kept: self.kept,
-        }
+    /// The bytes of the state in which the player stands.
+    pub fn bytes(&mut self) -> Vec<u8> {
+        layout::written(STATE_BYTES, |layout| self.lay(layout))
+    }
+
+    /// As `State` has it.
+    fn lay(&mut self, layout: &mut Layout) {
+        let player = &mut self.player;
+        layout.bytes([&mut player.order_index, &mut player.row]);
+        layout.options([&mut player.loop_pattern_order, &mut player.loop_count]);
+        layout.bytes([&mut player.loop_start_row, &mut player.pattern_delay_remaining]);
+        layout.flags([&mut player.replaying_for_pattern_delay, &mut player.ended]);
+        layout.bytes([&mut player.speed, &mut player.bpm, &mut player.global_volume]);
+        layout.flags([&mut player.amiga_limits, &mut player.fast_slides]);
+        layout.spare::<1>();
+        lay_rest(layout, &mut self.rate, &mut self.start, &mut player.channels, &mut self.kept);
     }
 }
 
@@ -202,11 +165,17 @@ pub fn open(tune: &Tune) -> State {
 /// state behind the section.
 pub fn walk(tune: &Tune, from: State, limit: usize, mut each: impl FnMut(&State, &State, &Record)) -> State {
     let (mut original, mut state, mut rows) = (Original::new(tune), from, 0);
+    original.set(&state.encode());
     while !state.ended && rows < limit {
-        let (entered, record) = original.enter(&state);
-        let Some(record) = record else { return entered };
+        let strikes = original.enter_row();
+        let entered = State::decode(&original.bytes());
+        let Some(strikes) = strikes else { return entered };
+        let mut record = [0; RECORD_BYTES];
+        original.put_record(strikes, &mut record);
         each(&state, &entered, &record);
-        state = original.leave(&entered);
+        original.start += u64::from(original.row_length());
+        original.leave_row();
+        state = State::decode(&original.bytes());
         rows += 1;
     }
     state
@@ -229,40 +198,5 @@ fn sample(sample: &Sample) -> SampleBody {
         c5_speed: sample.c5_speed,
         // Its registers are never read.
         adlib: sample.is_adlib().then(|| AdLibInstrument::from_registers(&[0; 11])),
-    }
-}
-
-/// A player with these tables; every field that a state holds is set before each use.
-fn player(samples: Vec<SampleBody>, patterns: Vec<Pattern>, order: Vec<u8>) -> PlayerState {
-    PlayerState {
-        samples,
-        patterns,
-        order,
-        channels: vec![Channel::default(); CHANNELS],
-        initial_pan: Vec::new(),
-        speed: super::DEFAULT_SPEED,
-        bpm: super::DEFAULT_BPM,
-        global_volume: 64,
-        master_volume: 48,
-        stereo: true,
-        active_channels: CHANNELS as u8,
-        fast_slides: false,
-        amiga_limits: false,
-        order_index: 0,
-        row: 0,
-        tick: 0,
-        tick_sample_cursor: 0,
-        sample_rate: SAMPLE_RATE,
-        ended: false,
-        opl_core: OperatorCore::new(),
-        pending_jump: None,
-        loop_start_row: 0,
-        loop_count: None,
-        loop_pattern_order: None,
-        pattern_delay_remaining: 0,
-        replaying_for_pattern_delay: false,
-        pending_global_vol: None,
-        first_sentinel_order: None,
-        divergent_jump_count: 0,
     }
 }

@@ -5,7 +5,7 @@ use crate::player::bridge::{Original, open};
 use crate::reader::{self, Lent};
 use crate::rules::{self, COUNTS_BYTES};
 use crate::sheet;
-use crate::state::{STATE_BYTES, State};
+use crate::state::STATE_BYTES;
 use crate::tune::{OPENING_BYTES, Opening, RECORD_BYTES, Tune, le32};
 
 /// What lies in the bytes that a call may write, beforehand.
@@ -21,15 +21,10 @@ pub enum Function {
     Line,
 }
 
+use Function::*;
+
 impl Function {
-    pub const ALL: [Function; 6] = [
-        Function::Measure,
-        Function::Read,
-        Function::Open,
-        Function::Section,
-        Function::Strikes,
-        Function::Line,
-    ];
+    pub const ALL: [Function; 6] = [Measure, Read, Open, Section, Strikes, Line];
 
     pub fn name(self) -> &'static str {
         ["measure", "read", "open", "section", "strikes", "line"][self as usize]
@@ -58,6 +53,12 @@ impl Answer {
     pub fn refusal(&self) -> u8 {
         (self.number >> 24) as u8
     }
+
+    /// The records of a section, none where it was refused.
+    pub fn records(&self) -> impl Iterator<Item = &[u8]> {
+        let rows = if self.refusal() == 0 { self.number & 0xFFFF } else { 0 };
+        self.slots[4].chunks_exact(RECORD_BYTES).take(rows as usize)
+    }
 }
 
 fn untouched(length: usize) -> Vec<u8> {
@@ -65,72 +66,51 @@ fn untouched(length: usize) -> Vec<u8> {
 }
 
 impl Call {
-    pub fn measure(file: &[u8]) -> Call {
-        let slots = [file.to_vec(), untouched(COUNTS_BYTES), vec![], vec![], vec![]];
+    fn new<const N: usize>(function: Function, number: u32, lent: [Vec<u8>; N]) -> Call {
+        let mut lent = lent.into_iter();
+        let slots = [(); 5].map(|_| lent.next().unwrap_or_default());
         Call {
-            function: Function::Measure,
-            number: 0,
+            function,
+            number,
             slots,
         }
     }
 
+    pub fn measure(file: &[u8]) -> Call {
+        Call::new(Measure, 0, [file.to_vec(), untouched(COUNTS_BYTES)])
+    }
+
     pub fn read(file: &[u8], rate: u32, lent: &Lent) -> Call {
-        let tables = [lent.orders, lent.samples, lent.cells].map(untouched);
-        let [orders, samples, cells] = tables;
-        let slots = [file.to_vec(), orders, samples, cells, untouched(OPENING_BYTES)];
-        Call {
-            function: Function::Read,
-            number: rate,
-            slots,
-        }
+        let [orders, samples, cells, opening] = [lent.orders, lent.samples, lent.cells, OPENING_BYTES].map(untouched);
+        Call::new(Read, rate, [file.to_vec(), orders, samples, cells, opening])
     }
 
     pub fn open(tune: &Tune) -> Call {
         let [orders, cells, samples] = [&tune.orders, &tune.cells, &tune.samples].map(Vec::clone);
-        let slots = [
-            orders,
-            cells,
-            samples,
-            tune.opening.encode().to_vec(),
-            untouched(STATE_BYTES),
-        ];
-        Call {
-            function: Function::Open,
-            number: 0,
-            slots,
-        }
+        Call::new(
+            Open,
+            0,
+            [orders, cells, samples, tune.opening.encode(), untouched(STATE_BYTES)],
+        )
     }
 
     /// From the bytes of a state, into an output with so many bytes to spare.
     pub fn section(tune: &Tune, state: Vec<u8>, n: u32, spare: usize) -> Call {
         let [orders, cells, samples] = [&tune.orders, &tune.cells, &tune.samples].map(Vec::clone);
-        let slots = [
-            orders,
-            cells,
-            samples,
-            state,
-            untouched(n as usize * RECORD_BYTES + spare),
-        ];
-        Call {
-            function: Function::Section,
-            number: n,
-            slots,
-        }
+        let output = untouched(n as usize * RECORD_BYTES + spare);
+        Call::new(Section, n, [orders, cells, samples, state, output])
     }
 
     /// Strikes or Line.
     pub fn of_record(function: Function, record: &[u8], output: usize) -> Call {
-        Call {
-            function,
-            number: 0,
-            slots: [record.to_vec(), untouched(output), vec![], vec![], vec![]],
-        }
+        Call::new(function, 0, [record.to_vec(), untouched(output)])
     }
 
     /// The tables that Open or Section is lent.
     pub fn tune(&self) -> Tune {
         let [orders, cells, samples, opening, _] = self.slots.clone();
-        let opening = if self.function == Function::Open {
+        let is_open = self.function == Open;
+        let opening = if is_open {
             Opening::decode(&opening)
         } else {
             Opening::default()
@@ -145,11 +125,8 @@ impl Call {
 
     /// The lengths of the tables that Read is lent.
     pub fn lent(&self) -> Lent {
-        Lent {
-            orders: self.slots[1].len(),
-            samples: self.slots[2].len(),
-            cells: self.slots[3].len(),
-        }
+        let [orders, samples, cells] = [1, 2, 3].map(|slot| self.slots[slot].len());
+        Lent { orders, samples, cells }
     }
 }
 
@@ -164,28 +141,26 @@ impl Judge {
             Some(&(rule, _)) => Err(rule),
             None => self.write(call, &mut slots),
         };
-        Answer {
-            number: given.unwrap_or_else(|rule| u32::from(rule) << 24),
-            slots,
-        }
+        let number = given.unwrap_or_else(|rule| u32::from(rule) << 24);
+        Answer { number, slots }
     }
 
     /// What a call gives that breaks none of the rules 9 to 13.
     fn write(&mut self, call: &Call, slots: &mut Slots) -> Result<u32, u8> {
         match call.function {
-            Function::Measure => {
-                let counts = reader::measure(&slots[0])?;
-                let counts = [counts.orders, counts.instruments, counts.patterns];
+            Measure => {
+                let lists = reader::measure(&slots[0])?;
+                let counts = [lists.orders, lists.instruments, lists.patterns];
                 slots[1] = counts.iter().flat_map(|&count| (count as u32).to_le_bytes()).collect();
             }
-            Function::Read => {
+            Read => {
                 let tune = reader::read_lent(&slots[0], &call.lent(), call.number)?;
-                slots[1..].clone_from_slice(&[tune.orders, tune.samples, tune.cells, tune.opening.encode().to_vec()]);
+                slots[1..].clone_from_slice(&[tune.orders, tune.samples, tune.cells, tune.opening.encode()]);
             }
-            Function::Open => slots[4] = open(&call.tune()).encode(),
-            Function::Section => return Ok(self.section(call, slots)),
-            Function::Strikes => return Ok(strikes(slots)),
-            Function::Line => {
+            Open => slots[4] = open(&call.tune()).encode(),
+            Section => return Ok(self.section(call, slots)),
+            Strikes => return Ok(strikes(slots)),
+            Line => {
                 let line = sheet::line(&slots[0]);
                 slots[1][..line.len()].copy_from_slice(line.as_bytes());
                 return Ok(line.len() as u32);
@@ -197,20 +172,16 @@ impl Judge {
     /// Rows in bits 0 to 15, whether the tune has ended in bit 16.
     fn section(&mut self, call: &Call, slots: &mut Slots) -> u32 {
         let original = self.original(call);
-        let from = State::decode(&call.slots[3]);
-        let rows = original.rows_recorded(&from, call.number as usize, &mut slots[4]);
-        let state = original.state();
-        slots[3] = state.encode();
-        rows as u32 | u32::from(state.ended) << 16
+        let rows = original.rows_recorded(&call.slots[3], call.number as usize, &mut slots[4]);
+        slots[3] = original.bytes();
+        rows as u32 | u32::from(slots[3][9]) << 16
     }
 
     fn original(&mut self, call: &Call) -> &mut Original {
-        let [orders, cells, samples, ..] = &call.slots;
-        let known =
-            |(tune, _): &(Tune, Original)| [&tune.orders, &tune.cells, &tune.samples] == [orders, cells, samples];
-        if !self.0.as_ref().is_some_and(known) {
-            let tune = call.tune();
-            self.0 = Some((tune.clone(), Original::new(&tune)));
+        let tune = call.tune();
+        if self.0.as_ref().is_none_or(|(known, _)| *known != tune) {
+            let original = Original::new(&tune);
+            self.0 = Some((tune, original));
         }
         let (_, original) = self.0.as_mut().expect("it was made");
         original

@@ -3,6 +3,7 @@
 pub mod calls;
 pub mod cover;
 pub mod generate;
+mod layout;
 pub mod list;
 pub mod plan;
 pub mod powf;

@@ -1,5 +1,6 @@
-//! The tables that a call is lent, byte for byte as document 01 lays them out, with
-//! the opening values.
+//! The tables that a call is lent, byte for byte as document 01 lays them out, with the opening values.
+
+use crate::layout::{self, Layout};
 
 pub const CHANNELS: usize = 32;
 pub const ROWS: usize = 64;
@@ -9,6 +10,9 @@ pub const PATTERN_BYTES: usize = ROWS * ROW_BYTES;
 pub const SAMPLE_BYTES: usize = 20;
 pub const OPENING_BYTES: usize = 144;
 pub const RECORD_BYTES: usize = 536;
+
+/// 01's worked example as a file.
+pub const WORKED: &[u8] = include_bytes!("../examples/worked.s3m");
 
 /// The record of a row.
 pub type Record = [u8; RECORD_BYTES];
@@ -100,40 +104,25 @@ impl Tune {
 }
 
 impl Opening {
-    pub fn encode(&self) -> [u8; OPENING_BYTES] {
-        let mut out = [0; OPENING_BYTES];
-        out[0] = self.speed;
-        out[1] = self.tempo;
-        out[2] = self.global_volume;
-        out[3] = self.amiga_limits.into();
-        out[4] = self.fast_slides.into();
-        out[8..12].copy_from_slice(&self.rate.to_le_bytes());
-        for (ch, b) in self.channels.iter().zip(out[16..].chunks_exact_mut(4)) {
-            let flags = [ch.muted, ch.right_bank, ch.adlib].map(u8::from);
-            b[0] = ch.pan;
-            b[1..].copy_from_slice(&flags);
-        }
-        out
+    pub fn encode(&self) -> Vec<u8> {
+        layout::written(OPENING_BYTES, |layout| self.clone().lay(layout))
     }
 
-    pub fn decode(b: &[u8]) -> Opening {
-        let channel = |i: usize| {
-            let b = &b[16 + i * 4..][..4];
-            ChannelOpening {
-                pan: b[0],
-                muted: b[1] != 0,
-                right_bank: b[2] != 0,
-                adlib: b[3] != 0,
-            }
-        };
-        Opening {
-            speed: b[0],
-            tempo: b[1],
-            global_volume: b[2],
-            amiga_limits: b[3] != 0,
-            fast_slides: b[4] != 0,
-            rate: le32(b, 8),
-            channels: std::array::from_fn(channel),
+    pub fn decode(bytes: &[u8]) -> Opening {
+        let mut opening = Opening::default();
+        layout::read(bytes, |layout| opening.lay(layout));
+        opening
+    }
+
+    fn lay(&mut self, layout: &mut Layout) {
+        layout.bytes([&mut self.speed, &mut self.tempo, &mut self.global_volume]);
+        layout.flags([&mut self.amiga_limits, &mut self.fast_slides]);
+        layout.spare::<3>();
+        layout.number(&mut self.rate);
+        layout.spare::<4>();
+        for ch in &mut self.channels {
+            layout.bytes([&mut ch.pan]);
+            layout.flags([&mut ch.muted, &mut ch.right_bank, &mut ch.adlib]);
         }
     }
 }

@@ -145,7 +145,7 @@ fn see_path(tally: &mut Tally, seen: &[Seen], before: &State, entered: &State) {
         (!taken && by_row && !by_order, "jump by C alone"),
         (!taken && by_order && by_row, "jump by B and C"),
         (changes && clocks > 1, "several A or T on a row"),
-        (entered.pending_global_vol.is_some(), "V waits"),
+        (has(V_GLOBAL_VOL).any(|cell| cell.info() <= 64), "V waits"),
     ]);
 }
 

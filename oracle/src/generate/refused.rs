@@ -6,10 +6,8 @@ use crate::random::Random;
 use crate::reader::Lent;
 use crate::rules::MOST_START;
 use crate::state::State;
-use crate::tune::{OPENING_BYTES, PATTERN_BYTES, RECORD_BYTES, SAMPLE_BYTES, Tune};
+use crate::tune::{OPENING_BYTES, PATTERN_BYTES, RECORD_BYTES, SAMPLE_BYTES, Tune, WORKED};
 
-/// 01's worked example.
-const WORKED: &[u8] = include_bytes!("../../examples/worked.s3m");
 const NANS: [u32; 4] = [0x7F80_0001, 0x7FC0_0000, 0xFF80_0001, 0xFFFF_FFFF];
 
 /// A call on a tune, from a state.

@@ -1,12 +1,10 @@
 //! Odd states: anything that 01's rule 11 accepts, with nothing waiting and not ended.
 
 use crate::player::bridge::open;
-use crate::player::{Channel, PendingTrigger, Waveform};
+use crate::player::{Channel, PendingTrigger};
 use crate::random::Random;
-use crate::state::{CHANNEL_BYTES, HEAD_BYTES, KEYED, NO_VOICE, RELEASED, S_SLOT, State, voice};
+use crate::state::{CHANNEL_BYTES, HEAD_BYTES, KEYED, NO_VOICE, RELEASED, S_SLOT, State, WAVEFORMS, voice};
 use crate::tune::{Tune, le64};
-
-const WAVEFORMS: [Waveform; 4] = [Waveform::Sine, Waveform::RampDown, Waveform::Square, Waveform::Random];
 
 pub fn odd_state(random: &mut Random, tune: &Tune) -> State {
     let order_index = order(random, tune);
