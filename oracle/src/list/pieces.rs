@@ -1,47 +1,21 @@
 //! How the bytes of a room change, in as few bytes as a simple search finds.
 
+use std::iter;
+
 /// Of a piece in the list: its place, its count, and where it is copied from.
-const PIECE_BYTES: u32 = 12;
-/// The mark of bytes that follow.
-const BYTES: u32 = u32::MAX;
+const PIECE_BYTES: usize = 12;
 /// As many places are compared, unless a copy is already long.
 const TRIES: usize = 12;
 const LONG: usize = 64;
 const KEY_BITS: u32 = 14;
-const NOWHERE: u32 = u32::MAX;
 /// Distances that are always tried: runs, and the sizes of cells, records, samples, channels and rows.
 const DISTANCES: [usize; 8] = [1, 5, 16, 20, 80, 160, 536, 10_240];
 
+/// A place in the room and a count of bytes: the room's own from there on, or new ones.
 pub struct Piece {
     pub at: usize,
     pub count: usize,
-    /// The room's own bytes from there, or these.
-    pub from: Result<usize, Vec<u8>>,
-}
-
-impl Piece {
-    pub fn encode(&self, out: &mut Vec<u8>) {
-        let from = self.from.as_ref().map_or(BYTES, |&from| from as u32);
-        for number in [self.at as u32, self.count as u32, from] {
-            out.extend(number.to_le_bytes());
-        }
-        if let Err(bytes) = &self.from {
-            out.extend(bytes);
-        }
-    }
-
-    /// None where the piece goes past the room.
-    pub fn apply(&self, room: &mut [u8]) -> Option<()> {
-        let there = |at: usize| at.checked_add(self.count).is_some_and(|end| end <= room.len());
-        match &self.from {
-            Err(bytes) if there(self.at) => room[self.at..self.at + self.count].copy_from_slice(bytes),
-            &Ok(from) if there(self.at) && there(from) => {
-                (0..self.count).for_each(|k| room[self.at + k] = room[from + k])
-            }
-            _ => return None,
-        }
-        Some(())
-    }
+    pub from: Option<usize>,
 }
 
 /// What the cheapest way does at a place: nothing, a byte of its own, or a copy of so many from there.
@@ -54,103 +28,83 @@ enum Step {
 
 /// The pieces that make the first bytes of `room` into `new`.
 pub fn pieces(room: &[u8], new: &[u8]) -> Vec<Piece> {
-    let Some(parked) = parked(room, new) else {
+    let Some((at, count)) = parked(room, new) else {
         return rising(room, new);
     };
     let mut room = room.to_vec();
-    parked.apply(&mut room).expect("it lies in the room");
-    let rest = rising(&room, new);
-    std::iter::once(parked).chain(rest).collect()
+    room.copy_within(..count, at);
+    let parked = Piece {
+        at,
+        count,
+        from: Some(0),
+    };
+    iter::once(parked).chain(rising(&room, new)).collect()
 }
 
 /// A copy of the room's first bytes to a place behind them, before others take their place.
-fn parked(room: &[u8], new: &[u8]) -> Option<Piece> {
-    let first = room
-        .get(..LONG)
-        .filter(|first| new.get(..LONG).is_some_and(|new| new != *first))?;
-    let at = LONG + new[LONG..].windows(LONG).position(|part| part == first)?;
-    let count = (0..at.min(new.len() - at))
-        .take_while(|&k| room[k] == new[at + k])
-        .count();
-    let there = room[at..at + count] == new[at..at + count];
-    (count > 8 * LONG && !there).then_some(Piece { at, count, from: Ok(0) })
+fn parked(room: &[u8], new: &[u8]) -> Option<(usize, usize)> {
+    let (first, there) = (room.get(..LONG)?, new.get(..LONG)?);
+    let found = new[LONG..].windows(LONG).position(|part| part == first);
+    let at = LONG + found.filter(|_| first != there)?;
+    let count = equal(&room[..at], &new[at..]);
+    (count > 8 * LONG && room[at..at + count] != new[at..at + count]).then_some((at, count))
+}
+
+/// How many bytes two parts begin with alike.
+fn equal(one: &[u8], other: &[u8]) -> usize {
+    one.iter().zip(other).take_while(|(a, b)| a == b).count()
 }
 
 /// The pieces in the order of their places, so that a copy finds new bytes before its place and old ones behind it.
 fn rising(room: &[u8], new: &[u8]) -> Vec<Piece> {
-    let first = room.iter().zip(new).take_while(|(a, b)| a == b).count();
-    let last = room
-        .iter()
-        .zip(new)
-        .rposition(|(a, b)| a != b)
-        .map_or(first, |last| last + 1);
-    let (open, inside) = if first < last {
-        steps(room, new, first, last)
-    } else {
-        Default::default()
+    let first = equal(room, new);
+    let differ = room.iter().zip(new).rposition(|(a, b)| a != b);
+    let Some(last) = differ.map(|last| last + 1) else {
+        return Vec::new();
     };
+    let steps = steps(room, new, first, last);
     let mut out: Vec<Piece> = Vec::new();
     let (mut at, mut going) = (first, false);
     while at < last {
-        let step = if going { inside[at - first] } else { open[at - first] };
+        let step = steps[at - first][usize::from(going)];
+        let (count, from) = if let Step::Copy { from, count } = step {
+            (count, Some(from))
+        } else {
+            (1, None)
+        };
         match (step, out.last_mut()) {
-            (Step::Same, _) => at += 1,
-            (Step::Copy { from, count }, _) => {
-                out.push(Piece {
-                    at,
-                    count,
-                    from: Ok(from),
-                });
-                at += count;
-            }
-            (
-                Step::Own,
-                Some(Piece {
-                    count,
-                    from: Err(bytes),
-                    ..
-                }),
-            ) if going => {
-                bytes.push(new[at]);
-                *count += 1;
-                at += 1;
-            }
-            (Step::Own, _) => {
-                out.push(Piece {
-                    at,
-                    count: 1,
-                    from: Err(vec![new[at]]),
-                });
-                at += 1;
-            }
+            (Step::Same, _) => {}
+            (Step::Own, Some(piece)) if going => piece.count += 1,
+            _ => out.push(Piece { at, count, from }),
         }
         going = matches!(step, Step::Own);
+        at += count;
     }
     out
 }
 
-/// The cheapest steps from each place on: where no piece is going on, and inside a piece of own bytes.
-fn steps(room: &[u8], new: &[u8], first: usize, last: usize) -> (Vec<Step>, Vec<Step>) {
+/// The cheapest step at each place: where no piece is going on, and inside a piece of own bytes.
+fn steps(room: &[u8], new: &[u8], first: usize, last: usize) -> Vec<[Step; 2]> {
     let copies = copies(room, new, first, last);
-    let size = last - first;
-    let (mut cost, mut cost_inside) = (vec![0; size + 1], vec![0; size + 1]);
-    let (mut open, mut inside) = (vec![Step::Same; size], vec![Step::Same; size]);
-    for i in (0..size).rev() {
-        let mut best = (cost_inside[i + 1] + PIECE_BYTES + 1, Step::Own);
-        if let Some((from, count)) = copies[i] {
-            best = cheaper(best, (cost[i + count] + PIECE_BYTES, Step::Copy { from, count }));
-        }
-        if room[first + i] == new[first + i] {
-            best = cheaper(best, (cost[i + 1], Step::Same));
-        }
-        (cost[i], open[i]) = best;
-        (cost_inside[i], inside[i]) = cheaper(best, (cost_inside[i + 1] + 1, Step::Own));
+    let mut costs = vec![[0; 2]; last - first + 1];
+    let mut out = vec![[Step::Same; 2]; last - first];
+    for i in (0..last - first).rev() {
+        let own = (costs[i + 1][1] + PIECE_BYTES + 1, Step::Own);
+        let copy = copies[i].map(|(from, count)| (costs[i + count][0] + PIECE_BYTES, Step::Copy { from, count }));
+        let same = (room[first + i] == new[first + i]).then_some((costs[i + 1][0], Step::Same));
+        let open = cheapest([Some(own), copy, same]);
+        let inside = cheapest([Some(open), Some((costs[i + 1][1] + 1, Step::Own))]);
+        (costs[i], out[i]) = ([open.0, inside.0], [open.1, inside.1]);
     }
-    (open, inside)
+    out
 }
 
-fn cheaper(one: (u32, Step), other: (u32, Step)) -> (u32, Step) {
-    if other.0 < one.0 { other } else { one }
+/// The first of the cheapest.
+fn cheapest<const N: usize>(ways: [Option<(usize, Step)>; N]) -> (usize, Step) {
+    ways.into_iter()
+        .flatten()
+        .min_by_key(|way| way.0)
+        .expect("own bytes are a way")
 }
 
 /// A long copy for each place, where there is one: its source and its count.
@@ -164,75 +118,62 @@ fn copies(room: &[u8], new: &[u8], first: usize, last: usize) -> Vec<Option<(usi
     for at in (first..last).rev() {
         // The copy found for the place behind, one byte longer.
         best = match best {
-            (from, count) if from > 0 && count > 0 && source(room, new, at, from - 1, 0) == new[at] => {
-                (from - 1, count + 1)
-            }
+            (from @ 1.., count @ 1..) if source(room, new, at, from - 1)[0] == new[at] => (from - 1, count + 1),
             _ => (0, 0),
         };
         for (run, distance) in runs.iter_mut().zip(DISTANCES) {
-            *run = if at >= distance && new[at - distance] == new[at] {
-                *run + 1
-            } else {
-                0
-            };
+            let alike = at >= distance && new[at - distance] == new[at];
+            *run = if alike { *run + 1 } else { 0 };
             best = if *run > best.1 { (at - distance, *run) } else { best };
         }
         if best.1 < LONG {
-            for from in before.like(at).chain(behind.first(new, at)) {
-                let most = (last - at).min(new.len() - from);
-                let count = (0..most)
-                    .take_while(|&k| source(room, new, at, from, k) == new[at + k])
-                    .count();
+            let later = key(new, at).and_then(|key| behind.heads[key]);
+            for from in before
+                .chain(before.next[at], TRIES)
+                .chain(behind.chain(later, TRIES + 1))
+            {
+                let count = equal(&new[at..last], source(room, new, at, from));
                 best = if count > best.1 { (from, count) } else { best };
             }
         }
         behind.add(room, at);
-        out[at - first] = (best.1 > PIECE_BYTES as usize).then_some(best);
+        out[at - first] = Some(best).filter(|best| best.1 > PIECE_BYTES);
     }
     out
 }
 
-/// The byte that a copy to `at` reads `k` bytes behind its source.
-fn source(room: &[u8], new: &[u8], at: usize, from: usize, k: usize) -> u8 {
-    if from < at { new[from + k] } else { room[from + k] }
+/// The bytes that a copy to `at` reads from there on.
+fn source<'a>(room: &'a [u8], new: &'a [u8], at: usize, from: usize) -> &'a [u8] {
+    if from < at {
+        &new[from..]
+    } else {
+        &room[from..new.len()]
+    }
 }
 
 /// Places by the bytes that stand there: for each the one that was added before it with alike bytes.
 struct Places {
-    heads: Vec<u32>,
-    next: Vec<u32>,
+    heads: Vec<Option<usize>>,
+    next: Vec<Option<usize>>,
 }
 
 impl Places {
     fn new(count: usize) -> Places {
         Places {
-            heads: vec![NOWHERE; 1 << KEY_BITS],
-            next: vec![NOWHERE; count],
+            heads: vec![None; 1 << KEY_BITS],
+            next: vec![None; count],
         }
     }
 
     fn add(&mut self, bytes: &[u8], at: usize) {
         if let Some(key) = key(bytes, at) {
-            self.next[at] = std::mem::replace(&mut self.heads[key], at as u32);
+            self.next[at] = self.heads[key].replace(at);
         }
     }
 
-    /// Those that were added before this place.
-    fn like(&self, at: usize) -> impl Iterator<Item = usize> {
-        let next = |at: usize| {
-            Some(self.next[at])
-                .filter(|&next| next != NOWHERE)
-                .map(|next| next as usize)
-        };
-        std::iter::successors(next(at), move |&at| next(at)).take(TRIES)
-    }
-
-    /// Those that were added last with bytes like these.
-    fn first(&self, bytes: &[u8], at: usize) -> impl Iterator<Item = usize> {
-        let head = key(bytes, at).map_or(NOWHERE, |key| self.heads[key]);
-        let head = Some(head).filter(|&head| head != NOWHERE).map(|head| head as usize);
-        head.into_iter()
-            .flat_map(move |head| std::iter::once(head).chain(self.like(head)))
+    /// A place and those that were added before it.
+    fn chain(&self, from: Option<usize>, most: usize) -> impl Iterator<Item = usize> {
+        iter::successors(from, |&at| self.next[at]).take(most)
     }
 }
 
