@@ -3,7 +3,8 @@
 
 use crate::tune::*;
 
-const HEADER_BYTES: usize = 96;
+pub const HEADER_BYTES: usize = 96;
+pub const PANS_MARK: u8 = 252;
 pub const INSTRUMENT_BYTES: usize = 80;
 
 /// The lengths in bytes of the tables that Read is lent.
@@ -31,7 +32,7 @@ impl Lists {
             orders: count(32),
             instruments: count(34),
             patterns: count(36),
-            has_pans: file[53] == 252,
+            has_pans: file[53] == PANS_MARK,
         })
     }
 
@@ -44,9 +45,17 @@ impl Lists {
         }
     }
 
-    /// Where the pans stand, if they do.
+    /// Where the lists behind the orders begin: instrument pointers, pattern pointers, pans.
+    pub fn instrument_list(&self) -> usize {
+        HEADER_BYTES + self.orders
+    }
+
+    pub fn pattern_list(&self) -> usize {
+        self.instrument_list() + 2 * self.instruments
+    }
+
     pub fn pans(&self) -> usize {
-        HEADER_BYTES + self.orders + 2 * (self.instruments + self.patterns)
+        self.pattern_list() + 2 * self.patterns
     }
 
     pub fn end(&self) -> usize {
@@ -55,11 +64,11 @@ impl Lists {
 
     /// The places that the instrument pointers name, as far as the list is there.
     pub fn instrument_places(&self, file: &[u8]) -> Vec<usize> {
-        places(file, HEADER_BYTES + self.orders, self.instruments)
+        places(file, self.instrument_list(), self.instruments)
     }
 
     pub fn pattern_places(&self, file: &[u8]) -> Vec<usize> {
-        places(file, HEADER_BYTES + self.orders + 2 * self.instruments, self.patterns)
+        places(file, self.pattern_list(), self.patterns)
     }
 }
 

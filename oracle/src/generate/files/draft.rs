@@ -1,49 +1,40 @@
 //! A file under construction: header and lists first, then parts on paragraphs of 16.
 
 use crate::random::Random;
-use crate::tune::CHANNELS;
+use crate::reader::{HEADER_BYTES, INSTRUMENT_BYTES, Lists, PANS_MARK, follow};
+use crate::tune::{CHANNELS, ROWS};
 
-pub const HEADER: usize = 96;
-pub const PANS_MARK: u8 = 252;
-
-/// How long the lists are, and whether the pans stand behind them.
-#[derive(Clone, Copy)]
-pub struct Shape {
-    pub orders: usize,
-    pub instruments: usize,
-    pub patterns: usize,
-    pub pans: bool,
-}
+/// The flag bits of an entry, alone and together.
+pub const FLAGS: [u8; 8] = [0, 0x20, 0x40, 0x60, 0x80, 0xA0, 0xC0, 0xE0];
 
 pub struct Draft {
     pub bytes: Vec<u8>,
-    pub shape: Shape,
+    pub lists: Lists,
 }
 
 impl Draft {
     /// Noise wherever nothing is said, levels in range, all pointers 0.
-    pub fn new(random: &mut Random, shape: Shape) -> Draft {
-        let mut bytes = noise(random, HEADER);
+    pub fn new(random: &mut Random, lists: Lists) -> Draft {
+        let mut bytes = noise(random, HEADER_BYTES);
         bytes[44..48].copy_from_slice(b"SCRM");
         bytes[48] = random.between(0, 64);
         bytes[49] = random.between(1, 255);
         bytes[50] = random.between(32, 255);
-        bytes[53] = match (shape.pans, bytes[53]) {
+        bytes[53] = match (lists.has_pans, bytes[53]) {
             (true, _) => PANS_MARK,
             (false, PANS_MARK) => 0,
             (false, other) => other,
         };
-        for _ in 0..shape.orders {
-            let there = random.index(shape.patterns + 1) as u8;
-            let odd = random.byte();
+        for _ in 0..lists.orders {
+            let (there, odd) = (random.index(lists.patterns + 1) as u8, random.byte());
             bytes.push(random.weighted(&[(6, there), (1, 0xFE), (1, 0xFF), (1, odd)]));
         }
-        bytes.resize(bytes.len() + 2 * (shape.instruments + shape.patterns), 0);
-        bytes.extend(noise(random, if shape.pans { CHANNELS } else { 0 }));
-        let mut draft = Draft { bytes, shape };
-        draft.set16(32, shape.orders as u16);
-        draft.set16(34, shape.instruments as u16);
-        draft.set16(36, shape.patterns as u16);
+        bytes.resize(lists.pans(), 0);
+        bytes.extend(noise(random, if lists.has_pans { CHANNELS } else { 0 }));
+        let mut draft = Draft { bytes, lists };
+        draft.set16(32, lists.orders as u16);
+        draft.set16(34, lists.instruments as u16);
+        draft.set16(36, lists.patterns as u16);
         draft
     }
 
@@ -54,26 +45,6 @@ impl Draft {
     /// Speed, tempo and global volume.
     pub fn set_levels(&mut self, [speed, tempo, volume]: [u8; 3]) {
         self.bytes[48..51].copy_from_slice(&[volume, speed, tempo]);
-    }
-
-    pub fn instrument_list(&self) -> usize {
-        HEADER + self.shape.orders
-    }
-
-    pub fn pattern_list(&self) -> usize {
-        self.instrument_list() + 2 * self.shape.instruments
-    }
-
-    pub fn pan_list(&self) -> usize {
-        self.pattern_list() + 2 * self.shape.patterns
-    }
-
-    pub fn point_instrument(&mut self, i: usize, pointer: u16) {
-        self.set16(self.instrument_list() + 2 * i, pointer);
-    }
-
-    pub fn point_pattern(&mut self, i: usize, pointer: u16) {
-        self.set16(self.pattern_list() + 2 * i, pointer);
     }
 
     /// Puts a part on the next paragraph, noise before it; its pointer.
@@ -94,4 +65,66 @@ impl Draft {
 
 pub fn noise(random: &mut Random, count: usize) -> Vec<u8> {
     (0..count).map(|_| random.byte()).collect()
+}
+
+/// 80 bytes of noise with this type; the numbers are small in half of them.
+pub fn instrument(random: &mut Random, kind: u8) -> Vec<u8> {
+    let mut out = noise(random, INSTRUMENT_BYTES);
+    out[0] = kind;
+    for at in [16, 20, 24, 32] {
+        if random.chance(50) {
+            out[at + 2..at + 4].fill(0);
+        }
+    }
+    out[28] = random.weighted(&[(2, 64), (1, 0), (1, 65), (4, out[28])]);
+    out
+}
+
+pub fn any_instrument(random: &mut Random) -> Vec<u8> {
+    let (adlib, other) = (random.between(2, 7), random.between(8, 255));
+    let kind = random.weighted(&[(5, 1), (3, adlib), (1, 0), (1, 8), (1, 255), (1, other)]);
+    instrument(random, kind)
+}
+
+/// A packed pattern with entries in `busy` of 100 rows.
+pub fn pattern(random: &mut Random, busy: u64) -> Vec<u8> {
+    let rows = (0..ROWS).map(|_| if random.chance(busy) { row(random) } else { vec![] });
+    let rows: Vec<Vec<u8>> = rows.collect();
+    packed(random, &rows)
+}
+
+/// The rows, each ended by 0, behind a word that nobody reads.
+pub fn packed(random: &mut Random, rows: &[Vec<u8>]) -> Vec<u8> {
+    let mut out = vec![0; 2];
+    for row in rows {
+        out.extend(row);
+        out.push(0);
+    }
+    let (right, odd) = (out.len() as u16, random.number() as u16);
+    let word = random.weighted(&[(2, right), (1, 0), (1, 2), (1, 65_535), (3, odd)]);
+    out[..2].copy_from_slice(&word.to_le_bytes());
+    out
+}
+
+fn row(random: &mut Random) -> Vec<u8> {
+    let mut out = Vec::new();
+    for _ in 0..random.weighted(&[(8, 1), (4, 2), (2, 4), (1, 9)]) {
+        let channel = random.between(0, 31);
+        for _ in 0..random.weighted(&[(16, 1), (3, 2), (1, 3)]) {
+            let flags = random.one(&FLAGS);
+            out.extend(entry(random, flags | channel));
+        }
+    }
+    out
+}
+
+/// An entry with what its first byte says; a first byte of 0 would end the row, and becomes a note on channel 0.
+pub fn entry(random: &mut Random, what: u8) -> Vec<u8> {
+    let what = if what == 0 { 0x20 } else { what };
+    let mut out = vec![what];
+    for _ in 0..follow(what) {
+        let any = random.byte();
+        out.push(random.weighted(&[(1, 0), (1, 255), (6, any)]));
+    }
+    out
 }
