@@ -1,33 +1,46 @@
 //! Odd states: anything that 01's rule 11 accepts, with nothing waiting and not ended.
 
+use super::cells::special;
 use crate::player::bridge::open;
 use crate::player::{Channel, PendingTrigger};
 use crate::random::Random;
 use crate::state::{CHANNEL_BYTES, HEAD_BYTES, KEYED, NO_VOICE, RELEASED, S_SLOT, State, WAVEFORMS, voice};
 use crate::tune::{Tune, le64};
 
+/// Odd states of both kinds; one in four has a sample position that is not a number.
+pub fn any_state(random: &mut Random, tune: &Tune) -> State {
+    let steered = random.chance(50);
+    let mut state = if steered {
+        steered_state(random, tune)
+    } else {
+        odd_state(random, tune)
+    };
+    if random.chance(25) {
+        let channel = random.index(state.channels.len());
+        state.channels[channel].sample_pos = f64::from_bits(0x7FF8 << 48);
+    }
+    state
+}
+
 pub fn odd_state(random: &mut Random, tune: &Tune) -> State {
     let order_index = order(random, tune);
     let (byte, speed, bpm) = (random.byte(), random.between(1, 255), random.between(32, 255));
     let start = random.below(1 << 62);
     let rate = 1 + random.below(100_000) as u32;
+    let (own, next) = (Some(order_index), Some(order_index.wrapping_add(1)));
+    let counts = [
+        (3, None),
+        (2, Some(0)),
+        (3, Some(1)),
+        (2, Some(2)),
+        (1, Some(255)),
+        (1, Some(byte)),
+    ];
     State {
         order_index,
         row: random.between(0, 63),
-        loop_pattern_order: random.weighted(&[
-            (5, Some(order_index)),
-            (2, None),
-            (2, Some(byte)),
-            (1, Some(order_index.wrapping_add(1))),
-        ]),
-        loop_count: random.weighted(&[
-            (3, None),
-            (2, Some(0)),
-            (3, Some(1)),
-            (2, Some(2)),
-            (1, Some(255)),
-            (1, Some(byte)),
-        ]),
+        loop_pattern_order: random.weighted(&[(5, own), (2, None), (2, Some(byte)), (1, next)]),
+        loop_count: random.weighted(&counts),
         loop_start_row: random.between(0, 63),
         pattern_delay_remaining: random.weighted(&[(6, 0), (2, 1), (1, 15), (1, 255)]),
         replaying_for_pattern_delay: random.chance(12),
@@ -44,19 +57,39 @@ pub fn odd_state(random: &mut Random, tune: &Tune) -> State {
     }
 }
 
+/// An odd state whose path fields take every value that rule 11 accepts.
+fn steered_state(random: &mut Random, tune: &Tune) -> State {
+    let mut state = odd_state(random, tune);
+    let [order, owner, count, hold] = std::array::from_fn(|_| random.byte());
+    let place = random.index(tune.orders.len()) as u8;
+    state.order_index = random.weighted(&[(6, state.order_index), (3, place), (1, order)]);
+    // The first order from here on that is no 0xFE.
+    let skipped = tune.orders.iter().skip(state.order_index.into());
+    let first = state
+        .order_index
+        .saturating_add(skipped.take_while(|&&named| named == 0xFE).count() as u8);
+    state.row = random.weighted(&[(4, state.row), (1, 63)]);
+    let others = [state.order_index, first.saturating_sub(1), owner].map(|order| (1, Some(order)));
+    state.loop_pattern_order = random.weighted(&[&[(5, Some(first)), (2, None)], &others[..]].concat());
+    state.loop_count = random.weighted(&[(1, state.loop_count), (1, Some(count))]);
+    state.pattern_delay_remaining = random.weighted(&[(2, state.pattern_delay_remaining), (1, hold)]);
+    state.speed = random.between(1, 255);
+    state.bpm = random.between(32, 255);
+    for channel in &mut state.channels {
+        let (any, special) = (random.byte(), special(random));
+        channel.effect_memory[S_SLOT] = random.weighted(&[(2, any), (3, special), (1, 0)]);
+    }
+    state
+}
+
 /// Mostly a place that names a pattern, also the others and past the end.
 fn order(random: &mut Random, tune: &Tune) -> u8 {
     let length = tune.orders.len();
-    let there = |&at: &usize| tune.pattern_at(at).is_some();
-    let (named, others): (Vec<usize>, Vec<usize>) = (0..length).partition(there);
-    let named = random.one(&named) as u8;
-    let other = if others.is_empty() {
-        named
-    } else {
-        random.one(&others) as u8
-    };
-    let byte = random.byte();
-    random.weighted(&[(24, named), (4, other), (1, length as u8), (1, byte)])
+    let (named, others): (Vec<usize>, Vec<usize>) = (0..length).partition(|&at| tune.pattern_at(at).is_some());
+    let named = random.one(&named);
+    let other = if others.is_empty() { named } else { random.one(&others) };
+    let byte = random.byte().into();
+    random.weighted(&[(24, named), (4, other), (1, length), (1, byte)]) as u8
 }
 
 fn channel(random: &mut Random, tune: &Tune) -> Channel {
@@ -98,7 +131,7 @@ fn channel(random: &mut Random, tune: &Tune) -> Channel {
 
 /// The bits of a float that is a number; half of them are usual pitches.
 fn frequency(random: &mut Random) -> u32 {
-    const ODD: [f32; 14] = [
+    const FAR: [f32; 8] = [
         0.0,
         -0.0,
         f32::INFINITY,
@@ -107,13 +140,8 @@ fn frequency(random: &mut Random) -> u32 {
         f32::MIN,
         f32::MIN_POSITIVE,
         -f32::MIN_POSITIVE,
-        8_363.0,
-        16_726.0,
-        126_703.15,
-        126_703.16,
-        1.0,
-        -440.0,
     ];
+    const NEAR: [f32; 6] = [8_363.0, 16_726.0, 126_703.15, 126_703.16, 1.0, -440.0];
     let subnormal = 1 + random.below(0x7F_FFFF) as u32;
     let any = random.number() as u32;
     let any = if f32::from_bits(any).is_nan() {
@@ -121,7 +149,7 @@ fn frequency(random: &mut Random) -> u32 {
     } else {
         any
     };
-    let odd = random.one(&ODD).to_bits();
+    let odd = random.one(&[&FAR[..], &NEAR].concat()).to_bits();
     let usual = (20.0 + random.below(200_000_000) as f32 / 1024.0).to_bits();
     random.weighted(&[(8, usual), (5, odd), (1, subnormal), (1, subnormal | 1 << 31), (1, any)])
 }
@@ -147,11 +175,13 @@ fn last_note(random: &mut Random) -> u8 {
 
 fn delay(random: &mut Random) -> Option<PendingTrigger> {
     let tick = random.byte();
+    let fire_tick = random.weighted(&[(6, tick & 15), (1, tick), (1, 0)]);
+    let [note, instrument, volume] = std::array::from_fn(|_| random.byte());
     let delay = PendingTrigger {
-        fire_tick: random.weighted(&[(6, tick & 15), (1, tick), (1, 0)]),
-        note: random.byte(),
-        instrument: random.byte(),
-        volume: random.byte(),
+        fire_tick,
+        note,
+        instrument,
+        volume,
     };
     random.weighted(&[(3, None), (1, Some(delay))])
 }
@@ -162,34 +192,19 @@ fn memory(random: &mut Random) -> [u8; 27] {
         let byte = random.byte();
         random.weighted(&[(1, 0), (3, byte)])
     });
-    let low = random.between(0, 15);
-    let byte = random.byte();
+    let (low, byte) = (random.between(0, 15), random.byte());
     out[S_SLOT] = random.weighted(&[(2, 0xB0 | low), (3, 0xD0 | low), (2, 0xE0 | low), (6, byte), (1, 0)]);
     out
 }
-
-/// The places of a state's head and of a channel that are flags, with the bytes that nobody reads where one is 0.
-const HEAD_FLAGS: [(usize, usize); 6] = [(2, 1), (4, 1), (8, 0), (9, 0), (13, 0), (14, 0)];
-const CHANNEL_FLAGS: [(usize, usize); 9] = [
-    (19, 0),
-    (25, 4),
-    (30, 0),
-    (37, 0),
-    (38, 0),
-    (39, 0),
-    (40, 0),
-    (41, 0),
-    (42, 0),
-];
 
 /// A state's bytes in another way that says the same: flags above 1, waveforms above 3, any NaN, noise in bytes that
 /// are not read.
 pub fn unclean(random: &mut Random, state: &State) -> Vec<u8> {
     let mut out = state.encode();
     let (head, channels) = out.split_at_mut(HEAD_BYTES);
-    stain(random, head, &HEAD_FLAGS, &[15, 20, 21, 22, 23]);
+    stain(random, head, &[2, 4, 8, 9, 13, 14], &[15, 20, 21, 22, 23]);
     for part in channels.chunks_exact_mut(CHANNEL_BYTES) {
-        stain(random, part, &CHANNEL_FLAGS, &[45, 46, 47]);
+        stain(random, part, &[19, 25, 30, 37, 38, 39, 40, 41, 42], &[45, 46, 47]);
         part[31] |= random.byte() & 0xFC;
         part[32] |= random.byte() & 0xFC;
         if f64::from_bits(le64(part, 8)).is_nan() {
@@ -200,8 +215,15 @@ pub fn unclean(random: &mut Random, state: &State) -> Vec<u8> {
     out
 }
 
-fn stain(random: &mut Random, part: &mut [u8], flags: &[(usize, usize)], spare: &[usize]) {
-    for &(at, behind) in flags {
+/// Flags that are set become any byte but 0; those of the loop's order and count and of the delay, where they are not,
+/// have noise in what follows them.
+fn stain(random: &mut Random, part: &mut [u8], flags: &[usize], spare: &[usize]) {
+    for &at in flags {
+        let behind = match at {
+            2 | 4 => 1,
+            25 => 4,
+            _ => 0,
+        };
         if part[at] != 0 {
             part[at] = random.between(1, 255);
         } else {
