@@ -27,7 +27,7 @@ impl Both {
     /// The same, and each of its records to Strikes and Line.
     pub fn section(&mut self, call: &Call) -> Result<Answer, String> {
         let answer = self.same(call)?;
-        for (i, record) in records(&answer).enumerate() {
+        for (i, record) in answer.records().enumerate() {
             for function in [Function::Strikes, Function::Line] {
                 self.same(&Call::of_record(function, record, 70))
                     .map_err(|why| format!("row {i}: {why}"))?;
@@ -41,16 +41,6 @@ impl Both {
         let refused: Vec<String> = refused.map(|(number, count)| format!("{number}: {count}")).collect();
         format!("{} calls (refused by {})", self.calls, refused.join(", "))
     }
-}
-
-/// The records of a section that was not refused.
-pub fn records(answer: &Answer) -> impl Iterator<Item = &[u8]> {
-    let rows = if answer.refusal() == 0 {
-        answer.number & 0xFFFF
-    } else {
-        0
-    };
-    answer.slots[4].chunks_exact(RECORD_BYTES).take(rows as usize)
 }
 
 pub fn compared(call: &Call, ours: &Answer, theirs: &Answer) -> Result<(), String> {

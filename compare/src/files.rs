@@ -6,7 +6,6 @@ use lomqashe::{Record, Tune, measure};
 use oracle::calls::Call;
 use oracle::generate::{self, Purpose};
 use oracle::random::Random;
-use oracle::reader::Lent;
 use oracle::{plan, reader, sheet, writer};
 
 /// Every so many files are read through rust/ and walked.
@@ -52,14 +51,10 @@ fn damage(random: &mut Random, file: &mut Vec<u8>) {
 fn same(both: &mut Both, random: &mut Random, file: &[u8]) -> Result<(), String> {
     both.same(&Call::measure(file))?;
     let needs = reader::measure(file).map(|counts| counts.needs());
-    let mut lent = needs.unwrap_or(Lent {
-        orders: 3,
-        samples: 20,
-        cells: 10_240,
-    });
+    let mut lent = needs.unwrap_or([3, 20, 10_240]);
     if random.chance(5) {
         let table = random.index(3);
-        *[&mut lent.orders, &mut lent.samples, &mut lent.cells][table] += random.one(&[1, 20, 10_240]);
+        lent[table] += random.one(&[1, 20, 10_240]);
     }
     both.same(&Call::read(file, random.number() as u32, &lent)).map(|_| ())
 }

@@ -1,6 +1,6 @@
 //! Sections of random tunes, from Open and from odd states, cut at random; now and then a large tune or a long section.
 
-use crate::both::{Both, records};
+use crate::both::Both;
 use oracle::calls::Call;
 use oracle::generate;
 use oracle::random::Random;
@@ -87,8 +87,9 @@ fn walk(both: &mut Both, random: &mut Random, tune: &Tune, mut state: Vec<u8>, t
 fn section(both: &mut Both, call: &Call, told: &mut Told) -> Result<Vec<u8>, String> {
     let answer = both.section(call)?;
     told.sections += 1;
-    told.rows += records(&answer).count() as u64;
-    told.strikes += records(&answer)
+    told.rows += answer.records().count() as u64;
+    told.strikes += answer
+        .records()
         .map(|record| u64::from(le32(record, 16).count_ones()))
         .sum::<u64>();
     told.ended += u64::from(answer.number >> 16);

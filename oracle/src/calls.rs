@@ -81,8 +81,9 @@ impl Call {
     }
 
     pub fn read(file: &[u8], rate: u32, lent: &Lent) -> Call {
-        let [orders, samples, cells, opening] = [lent.orders, lent.samples, lent.cells, OPENING_BYTES].map(untouched);
-        Call::new(Read, rate, [file.to_vec(), orders, samples, cells, opening])
+        let [orders, samples, cells] = lent.map(untouched);
+        let slots = [file.to_vec(), orders, samples, cells, untouched(OPENING_BYTES)];
+        Call::new(Read, rate, slots)
     }
 
     pub fn open(tune: &Tune) -> Call {
@@ -125,8 +126,7 @@ impl Call {
 
     /// The lengths of the tables that Read is lent.
     pub fn lent(&self) -> Lent {
-        let [orders, samples, cells] = [1, 2, 3].map(|slot| self.slots[slot].len());
-        Lent { orders, samples, cells }
+        [1, 2, 3].map(|slot| self.slots[slot].len())
     }
 }
 

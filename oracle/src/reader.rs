@@ -7,13 +7,8 @@ pub const HEADER_BYTES: usize = 96;
 pub const PANS_MARK: u8 = 252;
 pub const INSTRUMENT_BYTES: usize = 80;
 
-/// The lengths in bytes of the tables that Read is lent.
-#[derive(Clone, Copy, Debug, Default, PartialEq, Eq)]
-pub struct Lent {
-    pub orders: usize,
-    pub samples: usize,
-    pub cells: usize,
-}
+/// The lengths in bytes of the tables that Read is lent: orders, samples, cells.
+pub type Lent = [usize; 3];
 
 /// The file's lists, as its counts say they lie.
 #[derive(Clone, Copy)]
@@ -38,11 +33,11 @@ impl Lists {
 
     /// The lengths that the counts need.
     pub fn needs(&self) -> Lent {
-        Lent {
-            orders: self.orders,
-            samples: self.instruments * SAMPLE_BYTES,
-            cells: self.patterns * PATTERN_BYTES,
-        }
+        [
+            self.orders,
+            self.instruments * SAMPLE_BYTES,
+            self.patterns * PATTERN_BYTES,
+        ]
     }
 
     /// Where the lists behind the orders begin: instrument pointers, pattern pointers, pans.
@@ -112,7 +107,7 @@ pub fn broken(file: &[u8], lent: &Lent) -> Vec<u8> {
     let [orders, instruments, patterns] = [32, 34, 36].map(count);
     let lists = Lists::of(file);
     let over = |count: Option<usize>, most: usize| count.is_some_and(|count| count > most);
-    let other = |count: Option<usize>, size: usize, lent: usize| count.is_some_and(|count| count * size != lent);
+    let other = |count: Option<usize>, size, lent| count.is_some_and(|count| count * size != lent);
     let cut = |places: fn(&Lists, &[u8]) -> Vec<usize>, is_cut: fn(&[u8], usize) -> bool| {
         lists.is_some_and(|lists| places(&lists, file).iter().any(|&at| is_cut(file, at)))
     };
@@ -122,9 +117,9 @@ pub fn broken(file: &[u8], lent: &Lent) -> Vec<u8> {
         orders == Some(0) || over(orders, 255) || over(instruments, 99) || over(patterns, 100),
         lists.is_some_and(|lists| lists.end() > file.len()),
         byte(49) == Some(0) || byte(50).is_some_and(|tempo| tempo < 32) || byte(48) > Some(64),
-        other(orders, 1, lent.orders)
-            || other(instruments, SAMPLE_BYTES, lent.samples)
-            || other(patterns, PATTERN_BYTES, lent.cells),
+        other(orders, 1, lent[0])
+            || other(instruments, SAMPLE_BYTES, lent[1])
+            || other(patterns, PATTERN_BYTES, lent[2]),
         cut(Lists::instrument_places, is_cut_instrument),
         cut(Lists::pattern_places, is_cut_pattern),
     ];

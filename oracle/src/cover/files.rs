@@ -177,16 +177,14 @@ fn see_head(tally: &mut Tally, file: &File) {
 
 /// One table alone is a byte off.
 fn see_lent(tally: &mut Tally, file: &File) {
-    let (lent, needs) = (file.lent, file.lists.needs());
-    let tables = [
-        ("orders", lent.orders, needs.orders),
-        ("samples", lent.samples, needs.samples),
-        ("cells", lent.cells, needs.cells),
-    ];
-    let off: Vec<_> = tables.into_iter().filter(|(_, lent, needs)| lent != needs).collect();
+    let tables = ["orders", "samples", "cells"]
+        .into_iter()
+        .zip(file.lent)
+        .zip(file.lists.needs());
+    let off: Vec<_> = tables.filter(|((_, lent), needs)| lent != needs).collect();
     match off[..] {
-        [(table, lent, needs)] if lent + 1 == needs => tally.note(format!("lent {table} one short")),
-        [(table, lent, needs)] if lent == needs + 1 => tally.note(format!("lent {table} one long")),
+        [((table, lent), needs)] if lent + 1 == needs => tally.note(format!("lent {table} one short")),
+        [((table, lent), needs)] if lent == needs + 1 => tally.note(format!("lent {table} one long")),
         _ => {}
     }
 }

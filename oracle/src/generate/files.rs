@@ -8,7 +8,7 @@ use crate::reader::{INSTRUMENT_BYTES, Lent, Lists, PANS_MARK};
 use crate::tune::{CHANNELS, PATTERN_BYTES, ROWS, SAMPLE_BYTES, le16};
 use draft::{Draft, FLAGS, any_instrument, entry, noise, packed, pattern};
 
-const MOST_LENT: [usize; 3] = [255, 99 * SAMPLE_BYTES, 6 * PATTERN_BYTES];
+const MOST_LENT: Lent = [255, 99 * SAMPLE_BYTES, 6 * PATTERN_BYTES];
 
 /// A file with what Read is lent and handed.
 pub struct Made {
@@ -23,7 +23,7 @@ pub fn made(seed: u64) -> Made {
     let (inside, any) = (random.below(100_001) as u32, random.number() as u32);
     let edge = random.one(&[0, 1, 100_000, 100_001, u32::MAX]);
     let rate = random.weighted(&[(2, 60_000), (3, inside), (2, any), (2, edge)]);
-    let (file, other) = match random.below(8) {
+    let (Draft { bytes: file, .. }, other) = match random.below(8) {
         0 => (song(random), None),
         1 => (header(random), None),
         2 => (single_pattern(random), None),
@@ -32,21 +32,15 @@ pub fn made(seed: u64) -> Made {
         5 => (broken::ending(random), None),
         _ => broken::by_rules(random),
     };
-    let mut lent = usual_lent(&file.bytes);
+    let mut lent = usual_lent(&file);
     if other.unwrap_or_else(|| random.chance(10)) {
         broken::change_lent(random, &mut lent);
     }
-    let [orders, samples, cells] = lent;
-    let lent = Lent { orders, samples, cells };
-    Made {
-        file: file.bytes,
-        lent,
-        rate,
-    }
+    Made { file, lent, rate }
 }
 
 /// As long as the file's counts need, as far as that goes; 0 without counts.
-fn usual_lent(file: &[u8]) -> [usize; 3] {
+fn usual_lent(file: &[u8]) -> Lent {
     let count = |at| if file.len() >= at + 2 { le16(file, at).into() } else { 0 };
     let needed = [count(32), count(34) * SAMPLE_BYTES, count(36) * PATTERN_BYTES];
     std::array::from_fn(|table| needed[table].min(MOST_LENT[table]))

@@ -2,7 +2,7 @@
 
 use crate::player::cmd::*;
 use crate::player::{AMIGA_CLOCK_HZ, AMIGA_LIMIT_PERIOD_MAX, AMIGA_LIMIT_PERIOD_MIN};
-use crate::tune::{CELL, CHANNELS, ChannelOpening, EMPTY_CELL, Opening, PATTERN_BYTES, ROWS, SAMPLE_BYTES, Tune};
+use crate::tune::{CELL, CHANNELS, EMPTY_CELL, Opening, PATTERN_BYTES, ROWS, SAMPLE_BYTES, Tune};
 
 /// A cell and the sample that it plays.
 #[derive(Clone, Copy)]
@@ -11,15 +11,12 @@ pub struct Placed {
     pub sample: [u8; SAMPLE_BYTES],
 }
 
+/// A cell with a sample: its loop flag, and length, loop start, loop end and c5 speed.
 fn placed(cell: [u8; CELL], looped: bool, numbers: [u32; 4]) -> Placed {
-    let mut sample = [1, 60, looped.into(), 0].repeat(5);
-    for (number, part) in numbers.iter().zip(sample[4..].chunks_exact_mut(4)) {
-        part.copy_from_slice(&number.to_le_bytes());
-    }
-    Placed {
-        cell,
-        sample: sample.try_into().expect("20 bytes"),
-    }
+    let mut sample = [0; SAMPLE_BYTES];
+    sample[..4].copy_from_slice(&[1, 60, looped.into(), 0]);
+    sample[4..].copy_from_slice(numbers.map(u32::to_le_bytes).as_flattened());
+    Placed { cell, sample }
 }
 
 /// A note at a c5 speed.
@@ -29,11 +26,8 @@ pub fn note(note: u8, c5: u32) -> Placed {
 
 /// A sample offset of 256 times the info, with the loop's start and end and the sample's length.
 pub fn offset(info: u8, looped: bool, [start, end, length]: [u32; 3]) -> Placed {
-    placed(
-        [0x40, 1, 255, O_SAMPLE_OFFSET, info],
-        looped,
-        [length, start, end, 8363],
-    )
+    let cell = [0x40, 1, 255, O_SAMPLE_OFFSET, info];
+    placed(cell, looped, [length, start, end, 8363])
 }
 
 /// A tune that plays these one behind the other, 32 a row. Cells share equal samples, of which there may be 99.
@@ -42,10 +36,10 @@ pub fn tune(placed: &[Placed]) -> Tune {
     let mut cells = Vec::new();
     for one in placed {
         let known = samples.iter().position(|sample| *sample == one.sample);
-        let number = known.unwrap_or_else(|| {
+        let number = known.unwrap_or(samples.len());
+        if known.is_none() {
             samples.push(one.sample);
-            samples.len() - 1
-        });
+        }
         let mut cell = one.cell;
         cell[1] = if cell[1] == 0 { 0 } else { number as u8 + 1 };
         cells.extend(cell);
@@ -53,12 +47,7 @@ pub fn tune(placed: &[Placed]) -> Tune {
     let patterns = placed.len().div_ceil(CHANNELS * ROWS);
     cells.extend(EMPTY_CELL.repeat(patterns * PATTERN_BYTES / CELL - placed.len()));
     assert!(samples.len() <= 99, "a tune has no more samples");
-    Tune {
-        orders: (0..patterns as u8).collect(),
-        samples: samples.concat(),
-        cells,
-        opening: opening(),
-    }
+    tune_of((0..patterns as u8).collect(), samples.concat(), cells)
 }
 
 /// A tune whose row r has the fine slide r in each channel: E from 0xE0 up, then F.
@@ -67,28 +56,24 @@ pub fn slides() -> Tune {
         let command = if row < 32 { E_SLIDE_DOWN } else { F_SLIDE_UP };
         [255, 0, 255, command, 0xE0 + row % 32].repeat(CHANNELS)
     };
-    let cells = (0..ROWS as u8).flat_map(row).collect();
+    tune_of(vec![0], Vec::new(), (0..ROWS as u8).flat_map(row).collect())
+}
+
+fn tune_of(orders: Vec<u8>, samples: Vec<u8>, cells: Vec<u8>) -> Tune {
+    let opening = opening();
     Tune {
-        orders: vec![0],
-        samples: Vec::new(),
+        orders,
+        samples,
         cells,
-        opening: opening(),
+        opening,
     }
 }
 
 pub fn opening() -> Opening {
-    let channels = [ChannelOpening {
-        pan: 8,
-        ..ChannelOpening::default()
-    }; CHANNELS];
-    Opening {
-        speed: 6,
-        tempo: 125,
-        global_volume: 64,
-        rate: 60_000,
-        channels,
-        ..Opening::default()
-    }
+    let mut out = Opening::default();
+    (out.speed, out.tempo, out.global_volume, out.rate) = (6, 125, 64, 60_000);
+    out.channels.iter_mut().for_each(|channel| channel.pan = 8);
+    out
 }
 
 /// The bits of the Amiga limits.

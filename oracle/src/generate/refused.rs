@@ -3,7 +3,6 @@
 use super::unclean;
 use crate::calls::{Call, Function};
 use crate::random::Random;
-use crate::reader::Lent;
 use crate::rules::MOST_START;
 use crate::state::State;
 use crate::tune::{OPENING_BYTES, PATTERN_BYTES, RECORD_BYTES, SAMPLE_BYTES, Tune, WORKED};
@@ -18,14 +17,10 @@ pub fn call(random: &mut Random, tune: &Tune, state: &State) -> Call {
     }
     let (call, slots): (Call, &[usize]) = match random.below(10) {
         0 => (Call::measure(file(random)), &[1]),
-        1 => {
-            let lent = Lent {
-                orders: 1,
-                samples: SAMPLE_BYTES,
-                cells: PATTERN_BYTES,
-            };
-            (Call::read(file(random), random.number() as u32, &lent), &[4])
-        }
+        1 => (
+            Call::read(file(random), random.number() as u32, &[1, SAMPLE_BYTES, PATTERN_BYTES]),
+            &[4],
+        ),
         2..5 => (open(random, &mut tune), &[3, 4]),
         5..8 => (section(random, &tune, state.clone()), &[3]),
         _ => (record(random), &[]),

@@ -6,7 +6,7 @@ use crate::generate::pitch::{self, Placed};
 use crate::player::PERIOD_TABLE;
 use crate::player::bridge::open;
 use crate::player::cmd::*;
-use crate::tune::{CELL, CHANNELS, ROWS, Tune};
+use crate::tune::{CHANNELS, ROWS};
 
 /// c5 speeds for every note byte.
 pub const C5_SPEEDS: [u32; 6] = [0, 1, 8363, 65_535, 1 << 31, u32::MAX];
@@ -15,20 +15,12 @@ pub const C5_SPEEDS: [u32; 6] = [0, 1, 8363, 65_535, 1 << 31, u32::MAX];
 pub const PERIODS: [u32; 16] = [1, 2, 3, 4, 5, 7, 112, 113, 114, 169, 855, 856, 857, 1712, 9999, 15_000];
 
 /// Loops, each as start, end and the sample's length. The last four cannot be folded into.
+const MOST: u32 = u32::MAX;
+#[rustfmt::skip]
 const LOOPS: [[u32; 3]; 13] = [
-    [0, 1, 1],
-    [0, 100, 100],
-    [7, 100, 100],
-    [99, 100, 100],
-    [1, 256, 1000],
-    [255, 65_280, 65_280],
-    [0, 1 << 31, u32::MAX],
-    [3, u32::MAX, u32::MAX],
-    [u32::MAX - 1, u32::MAX, u32::MAX],
-    [7, 7, 100],
-    [9, 5, 100],
-    [5, 101, 100],
-    [0, 0, 0],
+    [0, 1, 1], [0, 100, 100], [7, 100, 100], [99, 100, 100], [1, 256, 1000], [255, 65_280, 65_280],
+    [0, 1 << 31, MOST], [3, MOST, MOST], [MOST - 1, MOST, MOST],
+    [7, 7, 100], [9, 5, 100], [5, 101, 100], [0, 0, 0],
 ];
 
 /// Frequencies, by their bits: zeros, the smallest, ones, the greatest, infinities, with either sign, and some that
@@ -50,10 +42,9 @@ pub fn add(asked: &mut Asked) {
 /// Cells with their samples, played from Open in sections of so many rows.
 fn play(asked: &mut Asked, placed: &[Placed], n: usize) {
     let tune = pitch::tune(placed);
-    let [.., mut state] = asked.ask(Call::open(&tune)).slots;
+    let mut state = asked.open(&tune);
     for _ in 0..placed.len().div_ceil(CHANNELS * n) {
-        let [_, _, _, after, _] = asked.ask(Call::section(&tune, state, n as u32, 0)).slots;
-        state = after;
+        [_, _, _, state, _] = asked.ask(Call::section(&tune, state, n as u32, 0)).slots;
     }
 }
 
@@ -64,12 +55,9 @@ fn notes(asked: &mut Asked) {
     play(asked, &all.collect::<Vec<_>>(), 48);
     let about = PERIODS.iter().flat_map(|period| about(8363 * PERIOD_TABLE[0] / period));
     play(asked, &about.map(|c5| pitch::note(0, c5)).collect::<Vec<_>>(), 2);
-    let bare: Vec<Placed> = C5_SPEEDS
-        .map(|c5| Placed {
-            cell: [255, 0, 255, G_TONE_PORTA, 1],
-            ..pitch::note(0, c5)
-        })
-        .to_vec();
+    let mut bare = C5_SPEEDS.map(|c5| pitch::note(0, c5));
+    bare.iter_mut()
+        .for_each(|placed| placed.cell = [255, 0, 255, G_TONE_PORTA, 1]);
     let tune = pitch::tune(&bare.repeat(2));
     let mut state = open(&tune);
     for (i, channel) in state.channels.iter_mut().enumerate().take(12) {
@@ -114,21 +102,16 @@ fn slides(asked: &mut Asked) {
 }
 
 /// As many frequencies as a row has channels: six about each Amiga limit among them.
-pub fn frequencies() -> Vec<u32> {
+pub fn frequencies() -> impl Iterator<Item = u32> {
     let edges = pitch::limits().into_iter().flat_map(|limit| limit - 3..limit + 3);
-    FREQUENCIES.into_iter().chain(edges).collect()
+    FREQUENCIES.into_iter().chain(edges)
 }
 
 /// Each finetune on a usual last note and on others.
 fn finetunes(asked: &mut Asked) {
-    let cells: Vec<u8> = (0..CHANNELS as u8)
-        .flat_map(|i| [255, 0, 255, S_EXTENDED, 0x20 | (i % 16)])
-        .collect();
-    let mut tune = Tune {
-        opening: pitch::opening(),
-        ..pitch::slides()
-    };
-    tune.cells[..CHANNELS * CELL].copy_from_slice(&cells);
+    let mut tune = pitch::slides();
+    let cells = (0..CHANNELS as u8).flat_map(|i| [255, 0, 255, S_EXTENDED, 0x20 | (i % 16)]);
+    tune.cells.iter_mut().zip(cells).for_each(|(byte, new)| *byte = new);
     let mut state = open(&tune);
     for (i, channel) in state.channels.iter_mut().enumerate() {
         channel.last_note = if i < 16 { 0x40 } else { [0, 1, 0x8B, 0xFE][i % 4] };

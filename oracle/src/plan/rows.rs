@@ -14,9 +14,9 @@ const WALK_ROWS: u32 = 85;
 const PARTED_SEEDS: std::ops::Range<u64> = 901..905;
 const VISIT_SEEDS: std::ops::Range<u64> = 656..664;
 const VISITS: usize = 13;
-const FREE_SEEDS: std::ops::Range<u64> = 711..712;
+const FREE_SEED: u64 = 711;
 const FREE_VISITS: usize = 8;
-const PLANNED_SEEDS: std::ops::Range<u64> = 701..702;
+const PLANNED_SEED: u64 = 701;
 /// The infos of planned rows that are recorded: each nibble, and edges.
 const PLANNED_INFOS: [u8; 40] = [
     0x00, 0x01, 0x0E, 0x0F, 0x10, 0x11, 0x1F, 0x20, 0x2F, 0x30, 0x37, 0x40, 0x41, 0x44, 0x47, 0x50, 0x60, 0x70, 0x80,
@@ -28,30 +28,22 @@ const SPARE: [usize; 4] = [0, 1, 7, 535];
 pub fn add(asked: &mut Asked) {
     WALK_SEEDS.for_each(|seed| walked(asked, seed));
     PARTED_SEEDS.for_each(|seed| parted(asked, seed));
-    VISIT_SEEDS.for_each(|seed| visited(asked, seed));
-    FREE_SEEDS.for_each(|seed| {
+    for seed in VISIT_SEEDS {
         let random = &mut Random::new(seed);
-        let tune = free_tune(random, seed);
-        visits(asked, random, &tune, FREE_VISITS);
-    });
-    PLANNED_SEEDS.for_each(|seed| planned(asked, seed));
+        let tune = generate::tune(random, Purpose::Visits, seed);
+        visits(asked, random, &tune, VISITS);
+    }
+    let random = &mut Random::new(FREE_SEED);
+    let tune = free_tune(random, FREE_SEED);
+    visits(asked, random, &tune, FREE_VISITS);
+    planned(asked, PLANNED_SEED);
 }
 
 /// A tune from Open on, in one section.
 fn walked(asked: &mut Asked, seed: u64) {
     let tune = generate::tune(&mut Random::new(seed), Purpose::Walks, seed);
-    let state = opened(asked, &tune);
-    asked.ask(Call::section(
-        &tune,
-        state,
-        WALK_ROWS,
-        SPARE[seed as usize % SPARE.len()],
-    ));
-}
-
-fn opened(asked: &mut Asked, tune: &Tune) -> Vec<u8> {
-    let [.., state] = asked.ask(Call::open(tune)).slots;
-    state
+    let (state, spare) = (asked.open(&tune), SPARE[seed as usize % SPARE.len()]);
+    asked.ask(Call::section(&tune, state, WALK_ROWS, spare));
 }
 
 /// A section from Open and one from an odd state, each all at once, 7 rows at a time and 1 at a time; one of no rows,
@@ -62,7 +54,7 @@ fn parted(asked: &mut Asked, seed: u64) {
     let [mut odd, mut ended] = [0, 1].map(|_| generate::any_state(random, &tune));
     odd.start >>= 1;
     ended.ended = true;
-    let starts = [opened(asked, &tune), generate::unclean(random, &odd)];
+    let starts = [asked.open(&tune), generate::unclean(random, &odd)];
     for (start, n) in starts.iter().zip([41, 40]) {
         in_parts(asked, &tune, start, n);
     }
@@ -73,25 +65,18 @@ fn parted(asked: &mut Asked, seed: u64) {
 /// Asks for the same rows three times. The parts' outputs hold all records behind the bytes that are to be written.
 fn in_parts(asked: &mut Asked, tune: &Tune, start: &[u8], n: u32) {
     let whole = asked.ask(Call::section(tune, start.to_vec(), n, 0));
-    let (rows, [.., records]) = (whole.number & 0xFFFF, whole.slots);
-    let behind = &records[..rows as usize * RECORD_BYTES];
+    let behind: Vec<&[u8]> = whole.records().collect();
+    let (rows, behind) = (behind.len() as u32, behind.concat());
     for part in [7, 1] {
         let mut state = start.to_vec();
         // An ended tune is asked on, to no more rows.
         for _ in 0..n.div_ceil(part).min(rows.div_ceil(part) + 1) {
             let mut call = Call::section(tune, state, part, 0);
             call.slots[4] = vec![UNTOUCHED; behind.len().max(RECORD_BYTES * part as usize)];
-            call.slots[4].extend(behind);
-            let [_, _, _, after, _] = asked.ask(call).slots;
-            state = after;
+            call.slots[4].extend(&behind);
+            [_, _, _, state, _] = asked.ask(call).slots;
         }
     }
-}
-
-fn visited(asked: &mut Asked, seed: u64) {
-    let random = &mut Random::new(seed);
-    let tune = generate::tune(random, Purpose::Visits, seed);
-    visits(asked, random, &tune, VISITS);
 }
 
 /// Sections of one row to three, each from an odd state.
@@ -120,7 +105,8 @@ fn odd_from(random: &mut Random, tune: &Tune, other: &State) -> State {
 
 /// A section from a state, whose bytes may say it in another way; the state behind it.
 fn visit(asked: &mut Asked, random: &mut Random, tune: &Tune, state: &State, n: u32) -> State {
-    let bytes = if random.chance(30) {
+    let odd = random.chance(30);
+    let bytes = if odd {
         generate::unclean(random, state)
     } else {
         state.encode()
@@ -146,13 +132,7 @@ fn planned(asked: &mut Asked, seed: u64) {
 pub fn planned_tune(random: &mut Random, seed: u64, infos: &[u8]) -> Tune {
     let mut tune = generate::tune(random, Purpose::Visits, seed);
     let patterns = infos.len().div_ceil(ROWS);
-    tune.cells = tune
-        .cells
-        .iter()
-        .copied()
-        .cycle()
-        .take(patterns * PATTERN_BYTES)
-        .collect();
+    tune.cells = tune.cells.into_iter().cycle().take(patterns * PATTERN_BYTES).collect();
     tune.orders = (0..patterns as u8).collect();
     for (row, info) in tune.cells.chunks_exact_mut(ROW_BYTES).zip(infos) {
         for (i, cell) in row.chunks_exact_mut(CELL).enumerate() {

@@ -3,7 +3,7 @@
 use super::draft::{self, Draft, FLAGS, any_instrument, entry, pattern};
 use super::{MOST_LENT, few, lists, scattered};
 use crate::random::Random;
-use crate::reader::{HEADER_BYTES, INSTRUMENT_BYTES, Lists};
+use crate::reader::{HEADER_BYTES, INSTRUMENT_BYTES, Lent, Lists};
 use crate::tune::{ROWS, le16};
 
 /// One to three bytes changed, most of them where the reading looks, or the end cut off.
@@ -156,7 +156,7 @@ fn point_past(random: &mut Random, draft: &mut Draft, instrument: bool) {
 }
 
 /// One table of another length, often by one byte.
-pub fn change_lent(random: &mut Random, lent: &mut [usize; 3]) {
+pub fn change_lent(random: &mut Random, lent: &mut Lent) {
     let table = random.index(3);
     let by = random.one(&[1, 1, 1, 20, 10_240]);
     let there = lent[table];

@@ -8,7 +8,7 @@ use crate::cover;
 use crate::generate::{self, Purpose, files};
 use crate::list::Case;
 use crate::random::Random;
-use crate::tune::{PATTERN_BYTES, RECORD_BYTES};
+use crate::tune::{PATTERN_BYTES, Tune};
 
 pub use pitch::{C5_SPEEDS, PERIODS, frequencies};
 pub use rows::{free_tune, planned_tune};
@@ -27,12 +27,16 @@ pub struct Asked {
 
 impl Asked {
     fn ask(&mut self, call: Call) -> Answer {
-        let answer = self.judge.answer(&call);
-        self.cases.push(Case {
-            call,
-            answer: answer.clone(),
-        });
+        let case = case(&mut self.judge, call);
+        let answer = case.answer.clone();
+        self.cases.push(case);
         answer
+    }
+
+    /// Open's state.
+    fn open(&mut self, tune: &Tune) -> Vec<u8> {
+        let [.., state] = self.ask(Call::open(tune)).slots;
+        state
     }
 }
 
@@ -70,11 +74,13 @@ fn refused() -> Vec<Call> {
 
 fn telling(calls: impl Iterator<Item = Call>, first: usize) -> Vec<Call> {
     let mut judge = Judge::default();
-    let cases = calls.map(|call| Case {
-        answer: judge.answer(&call),
-        call,
-    });
-    cover::telling(cases, first).into_iter().map(|case| case.call).collect()
+    let cases = cover::telling(calls.map(|call| case(&mut judge, call)), first);
+    cases.into_iter().map(|case| case.call).collect()
+}
+
+fn case(judge: &mut Judge, call: Call) -> Case {
+    let answer = judge.answer(&call);
+    Case { call, answer }
 }
 
 /// Strikes and Line of recorded rows, by their heads.
@@ -83,15 +89,8 @@ fn records(asked: &mut Asked) {
         .cases
         .iter()
         .filter(|case| case.call.function == Function::Section);
-    let rows = sections.flat_map(|case| {
-        let rows = if case.answer.refusal() == 0 {
-            case.answer.number & 0xFFFF
-        } else {
-            0
-        };
-        case.answer.slots[4].chunks_exact(RECORD_BYTES).take(rows as usize)
-    });
-    let rows: Vec<Vec<u8>> = rows.step_by(23).map(<[u8]>::to_vec).collect();
+    let rows = sections.flat_map(|case| case.answer.records()).step_by(23);
+    let rows: Vec<Vec<u8>> = rows.map(<[u8]>::to_vec).collect();
     let mut record = rows[0].clone();
     for row in rows {
         record[..24].copy_from_slice(&row[..24]);
