@@ -1,41 +1,23 @@
-//! Reads the original sources, makes the patched copies in OUT_DIR, and writes the
-//! module list that src/lib.rs includes.
+//! Reads the original sources, makes the patched copies in OUT_DIR, and writes the module list that src/lib.rs includes.
 
-#[path = "src/patch.rs"]
-mod patch;
-
-use patch::Patch;
 use std::path::{Path, PathBuf};
 use std::{env, fs, process};
 
-const HEADER: &[Patch] = &[Patch {
-    name: "error-type",
-    old: "use oxideav_core::",
-    new: "use crate::oxideav_core::",
-}];
+/// A change by its name: the first text stands exactly once and becomes the second.
+type Patch = (&'static str, &'static str, &'static str);
 
+const FACTOR: &str = "crate::factors::slide_factor(ch.command, ch.info)";
 const PLAYER: &[Patch] = &[
-    Patch {
-        name: "fine-slide-down",
-        old: "2.0f32.powf(-amount * scale / 768.0)",
-        new: "crate::factors::slide_factor(ch.command, ch.info)",
-    },
-    Patch {
-        name: "fine-slide-up",
-        old: "2.0f32.powf(amount * scale / 768.0)",
-        new: "crate::factors::slide_factor(ch.command, ch.info)",
-    },
-    Patch {
-        name: "retrigger-on-tick-0",
-        old: "Self::apply_retrigger(ch);",
-        new: "",
-    },
-    Patch {
-        name: "tremor-on-tick-0",
-        old: "for the procedure.\n                    Self::apply_tremor_step(ch, x, y);",
-        new: "for the procedure.",
-    },
+    ("fine-slide-down", "2.0f32.powf(-amount * scale / 768.0)", FACTOR),
+    ("fine-slide-up", "2.0f32.powf(amount * scale / 768.0)", FACTOR),
+    ("retrigger-on-tick-0", "Self::apply_retrigger(ch);", ""),
+    (
+        "tremor-on-tick-0",
+        "for the procedure.\n                    Self::apply_tremor_step(ch, x, y);",
+        "for the procedure.",
+    ),
 ];
+const HEADER: &[Patch] = &[("error-type", "use oxideav_core::", "use crate::oxideav_core::")];
 
 /// The modules taken over, each with its patches.
 const MODULES: &[(&str, &[Patch])] = &[("header", HEADER), ("opl2", &[]), ("pattern", &[]), ("player", PLAYER)];
@@ -50,17 +32,19 @@ fn main() {
 fn build() -> Result<(), String> {
     println!("cargo::rerun-if-env-changed=LOMQASHE_ORIGINAL");
     println!("cargo::rerun-if-changed=build.rs");
-    println!("cargo::rerun-if-changed=src/patch.rs");
-    let out = PathBuf::from(var("OUT_DIR")?);
-    let home = PathBuf::from(var("CARGO_MANIFEST_DIR")?);
-    let original = env::var("LOMQASHE_ORIGINAL")
-        .map(PathBuf::from)
-        .unwrap_or(home.join("../../shared/docs/src"));
+    let place = |name| {
+        env::var(name)
+            .map(PathBuf::from)
+            .map_err(|why| format!("{name}: {why}"))
+    };
+    let (out, home) = (place("OUT_DIR")?, place("CARGO_MANIFEST_DIR")?);
+    let original = place("LOMQASHE_ORIGINAL").unwrap_or(home.join("../../shared/docs/src"));
     let mut list = String::new();
     for &(name, patches) in MODULES {
         let from = original.join("src").join(format!("{name}.rs"));
         println!("cargo::rerun-if-changed={}", from.display());
-        let mut text = patch::apply(&read(&from)?, patches).map_err(|why| format!("{}: {why}", from.display()))?;
+        let text = fs::read_to_string(&from).map_err(|why| format!("{}: {why}", from.display()))?;
+        let mut text = patched(text, patches).map_err(|why| format!("{}: {why}", from.display()))?;
         if name == "player" {
             // Inside the module, the bridge sees its private functions and fields.
             text += &module("bridge", &home.join("src/bridge.rs"));
@@ -73,17 +57,21 @@ fn build() -> Result<(), String> {
     write(&out.join("original.rs"), &list)
 }
 
+/// The text with all patches made, or which patch fitted how often.
+fn patched(mut text: String, patches: &[Patch]) -> Result<String, String> {
+    for (name, old, new) in patches {
+        let times = text.matches(old).count();
+        if times != 1 {
+            return Err(format!("patch '{name}' fitted {times} times, not once"));
+        }
+        text = text.replacen(old, new, 1);
+    }
+    Ok(text)
+}
+
 /// A module's line with the place of its file, which an `include!` could not give.
 fn module(name: &str, file: &Path) -> String {
     format!("#[path = {file:?}]\npub mod {name};\n")
-}
-
-fn var(name: &str) -> Result<String, String> {
-    env::var(name).map_err(|why| format!("{name}: {why}"))
-}
-
-fn read(file: &Path) -> Result<String, String> {
-    fs::read_to_string(file).map_err(|why| format!("{}: {why}", file.display()))
 }
 
 fn write(file: &Path, text: &str) -> Result<(), String> {

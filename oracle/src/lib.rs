@@ -26,8 +26,6 @@ pub mod oxideav_core;
 pub mod samples;
 
 #[cfg(test)]
-mod patch;
-#[cfg(test)]
 mod tests;
 
 // The original's modules header, opl2, pattern and player, patched by build.rs.

@@ -14,7 +14,8 @@ const USAGE: &str = "usage: oracle/run sheet < FILE
 fn main() -> ExitCode {
     let args: Vec<String> = std::env::args().skip(1).collect();
     let words: Vec<&str> = args.iter().map(String::as_str).collect();
-    match answer(&words).and_then(|text| io::stdout().write_all(text.as_bytes()).map_err(|why| why.to_string())) {
+    let print = |text: String| io::stdout().write_all(text.as_bytes()).map_err(|why| why.to_string());
+    match answer(&words).and_then(print) {
         Ok(()) => ExitCode::SUCCESS,
         Err(why) => {
             eprintln!("{why}");
@@ -38,8 +39,6 @@ fn answer(words: &[&str]) -> Result<String, String> {
 
 fn standard_input() -> Result<Vec<u8>, String> {
     let mut file = Vec::new();
-    io::stdin()
-        .read_to_end(&mut file)
-        .map(|_| file)
-        .map_err(|why| why.to_string())
+    let read = io::stdin().read_to_end(&mut file);
+    read.map(|_| file).map_err(|why| why.to_string())
 }

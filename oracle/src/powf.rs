@@ -2,30 +2,24 @@
 
 use crate::factors;
 use crate::player::cmd;
-use std::fmt::Write;
 use std::hint::black_box;
 
 pub fn report() -> String {
-    let mut out = String::new();
-    let mut others = 0;
-    for command in [cmd::E_SLIDE_DOWN, cmd::F_SLIDE_UP] {
+    let (mut out, mut others) = (String::new(), 0);
+    for (command, letter) in [(cmd::E_SLIDE_DOWN, 'E'), (cmd::F_SLIDE_UP, 'F')] {
         for info in 0xE0..=0xFF {
             let index = factors::index(command, info);
             let (table, here) = (factors::table()[index], own(command, info).to_bits());
             if table != here {
                 others += 1;
-                let letter = if command == cmd::F_SLIDE_UP { 'F' } else { 'E' };
-                writeln!(
-                    out,
-                    "powf: {letter}{info:02X} (entry {index}): table {table:08x}, here {here:08x}"
-                )
-                .expect("a string takes all");
+                out += &format!("powf: {letter}{info:02X} (entry {index}): table {table:08x}, here {here:08x}\n");
             }
         }
     }
-    let others = match others {
-        0 => "none".to_string(),
-        some => some.to_string(),
+    let others = if others == 0 {
+        "none".to_string()
+    } else {
+        others.to_string()
     };
     out + &format!("powf: {others} of 64 differ from the table on this machine\n")
 }

@@ -1,21 +1,20 @@
-//! Where the original's own reading of a file (header.rs, pattern.rs and the player's
-//! constructor) differs from 01's, which decides.
+//! Where the original's own reading of a file (header.rs, pattern.rs and the player's constructor) differs from 01's,
+//! which decides.
 
 use crate::header::{Instrument, S3mHeader, parse_header};
 use crate::pattern::{Pattern, unpack_all};
 use crate::player::PlayerState;
 use crate::reader;
-use crate::tune::{ROWS, Tune};
+use crate::sheet::RATE;
+use crate::state::SAMPLE_RATE;
+use crate::tune::{ChannelOpening, ROWS, Sample, Tune};
 use std::fmt::Debug;
-
-const RATE: u32 = 60_000;
 
 pub fn report(file: &[u8]) -> String {
     let mut found = Differences::default();
     match (reader::read(file, RATE), parse_header(file)) {
         (Ok(tune), Ok(header)) => {
-            let patterns = unpack_all(&header, file);
-            see_cells(&mut found, &tune, &patterns);
+            see_cells(&mut found, &tune, &unpack_all(&header, file));
             see_samples(&mut found, &tune, &header.instruments);
             see_opening(&mut found, &tune, &header);
         }
@@ -33,8 +32,8 @@ struct Differences(Vec<String>);
 impl Differences {
     fn note(&mut self, what: impl AsRef<str>, law: impl Debug, original: impl Debug) {
         let what = what.as_ref();
-        let line = format!("readers: {what}: 01 {law:?}, original {original:?}\n");
-        self.0.push(line);
+        self.0
+            .push(format!("readers: {what}: 01 {law:?}, original {original:?}\n"));
     }
 
     fn compare<T: Debug + PartialEq>(&mut self, what: impl AsRef<str>, law: T, original: T) {
@@ -49,16 +48,13 @@ fn see_cells(found: &mut Differences, tune: &Tune, patterns: &[Pattern]) {
     for (number, pattern) in patterns.iter().enumerate() {
         for row in 0..ROWS {
             for (channel, cell) in tune.row(number, row).enumerate() {
-                let theirs = &pattern.rows[row][channel];
-                let place = format!("pattern {number} row {row} channel {channel}");
-                let theirs = [
-                    theirs.note,
-                    theirs.instrument,
-                    theirs.volume,
-                    theirs.command,
-                    theirs.info,
-                ];
-                found.compare(place, cell, &theirs[..]);
+                let their = &pattern.rows[row][channel];
+                let theirs = [their.note, their.instrument, their.volume, their.command, their.info];
+                found.compare(
+                    format!("pattern {number} row {row} channel {channel}"),
+                    cell,
+                    &theirs[..],
+                );
             }
         }
     }
@@ -66,20 +62,21 @@ fn see_cells(found: &mut Differences, tune: &Tune, patterns: &[Pattern]) {
 
 fn see_samples(found: &mut Differences, tune: &Tune, instruments: &[Instrument]) {
     for (i, theirs) in instruments.iter().enumerate() {
-        let ours = tune.sample(i);
-        let name = |field: &str| format!("instrument {} {field}", i + 1);
-        found.compare(name("type"), ours.kind, theirs.kind);
-        found.compare(name("volume"), ours.volume, theirs.volume);
-        found.compare(name("looped"), ours.looped, theirs.is_looped());
-        found.compare(name("length"), ours.length, theirs.length);
-        found.compare(name("loop start"), ours.loop_start, theirs.loop_start);
-        found.compare(name("loop end"), ours.loop_end, theirs.loop_end);
-        found.compare(name("c5 speed"), ours.c5_speed, theirs.c5_speed);
+        let read = Sample {
+            kind: theirs.kind,
+            volume: theirs.volume,
+            looped: theirs.is_looped(),
+            length: theirs.length,
+            loop_start: theirs.loop_start,
+            loop_end: theirs.loop_end,
+            c5_speed: theirs.c5_speed,
+        };
+        found.compare(format!("instrument {}", i + 1), tune.sample(i), read);
     }
 }
 
 fn see_opening(found: &mut Differences, tune: &Tune, header: &S3mHeader) {
-    let player = PlayerState::new(header, Vec::new(), Vec::new(), 44_100);
+    let player = PlayerState::new(header, Vec::new(), Vec::new(), SAMPLE_RATE);
     let ours = &tune.opening;
     found.compare("orders", &tune.orders, &player.order);
     found.compare("speed", ours.speed, player.speed);
@@ -88,10 +85,12 @@ fn see_opening(found: &mut Differences, tune: &Tune, header: &S3mHeader) {
     found.compare("Amiga limits", ours.amiga_limits, player.amiga_limits);
     found.compare("fast slides", ours.fast_slides, player.fast_slides);
     for (i, (ours, theirs)) in ours.channels.iter().zip(&player.channels).enumerate() {
-        let name = |field: &str| format!("channel {i} {field}");
-        found.compare(name("pan"), ours.pan, theirs.pan);
-        found.compare(name("muted"), ours.muted, theirs.muted);
-        found.compare(name("right bank"), ours.right_bank, theirs.right_bank);
-        found.compare(name("AdLib"), ours.adlib, theirs.adlib);
+        let read = ChannelOpening {
+            pan: theirs.pan,
+            muted: theirs.muted,
+            right_bank: theirs.right_bank,
+            adlib: theirs.adlib,
+        };
+        found.compare(format!("channel {i}"), *ours, read);
     }
 }

@@ -16,11 +16,8 @@ pub type Fact = (u8, &'static str, bool);
 
 /// What is broken, in the order in which the rules are asked.
 pub fn broken(call: &Call) -> Vec<(u8, &'static str)> {
-    facts(call)
-        .into_iter()
-        .filter(|fact| fact.2)
-        .map(|(rule, what, _)| (rule, what))
-        .collect()
+    let broken = facts(call).into_iter().filter(|fact| fact.2);
+    broken.map(|(rule, what, _)| (rule, what)).collect()
 }
 
 /// All that is asked of a call, but for rules 1 to 8, which the reader asks.
@@ -33,13 +30,10 @@ pub fn facts(call: &Call) -> Vec<Fact> {
             let lengths = [length(d, OPENING_BYTES, "opening"), length(e, STATE_BYTES, "state")];
             [lengths.concat(), tables(a, b, c), opening(d)].concat()
         }
-        Function::Section => [
-            length(d, STATE_BYTES, "state"),
-            tables(a, b, c),
-            state(d),
-            output(call.number, e),
-        ]
-        .concat(),
+        Function::Section => {
+            let state = [length(d, STATE_BYTES, "state"), tables(a, b, c), state(d)];
+            [state.concat(), output(call.number, e)].concat()
+        }
         Function::Strikes => record(a, b, STRIKES_BYTES),
         Function::Line => record(a, b, LINE_BYTES),
     }
@@ -74,7 +68,7 @@ fn opening(bytes: &[u8]) -> Vec<Fact> {
         (opening.speed == 0, "opening speed 0"),
         (opening.tempo < 32, "opening tempo below 32"),
         (opening.global_volume > 64, "opening volume above 64"),
-        (opening.channels.iter().any(|channel| channel.pan > 15), "pan above 15"),
+        (opening.channels.iter().any(|ch| ch.pan > 15), "pan above 15"),
         (opening.rate == 0, "opening rate 0"),
         (opening.rate > 100_000, "opening rate above 100,000"),
     ];
@@ -86,7 +80,7 @@ fn state(bytes: &[u8]) -> Vec<Fact> {
         return Vec::new();
     }
     let state = State::decode(bytes);
-    let mut channels = state.channels.iter();
+    let (mut frequencies, mut targets) = (state.channels.iter(), state.channels.iter());
     let facts = [
         (state.row > 63, "row above 63"),
         (state.loop_start_row > 63, "loop start above 63"),
@@ -95,14 +89,8 @@ fn state(bytes: &[u8]) -> Vec<Fact> {
         (state.start > MOST_START, "start above 2^62"),
         (state.rate == 0, "rate 0"),
         (state.rate > 100_000, "rate above 100,000"),
-        (
-            channels.clone().any(|channel| channel.frequency.is_nan()),
-            "frequency not a number",
-        ),
-        (
-            channels.any(|channel| channel.target_frequency.is_nan()),
-            "target not a number",
-        ),
+        (frequencies.any(|ch| ch.frequency.is_nan()), "frequency not a number"),
+        (targets.any(|ch| ch.target_frequency.is_nan()), "target not a number"),
     ];
     of_rule(11, facts)
 }

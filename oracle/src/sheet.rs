@@ -5,7 +5,7 @@ use crate::reader;
 use crate::tune::{Tune, le32, le64};
 use std::fmt::Write;
 
-const RATE: u32 = 60_000;
+pub const RATE: u32 = 60_000;
 const MOST_BYTES: usize = 65_536;
 const MOST_PATTERNS: usize = 6;
 const MOST_ROWS: usize = 10_000;

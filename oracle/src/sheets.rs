@@ -1,5 +1,5 @@
-//! Holds the built program `rowsheet` against the original's sheets: of every recorded
-//! file, good or damaged, and of fresh tunes written as files.
+//! Holds the built program `rowsheet` against the original's sheets: of every recorded file, good or damaged, and of fresh
+//! tunes written as files.
 
 use crate::generate::{self, Purpose};
 use crate::plan;
@@ -15,29 +15,25 @@ const TUNES: u64 = 200;
 
 /// `words`: the program, then a seed and how many tunes, if said.
 pub fn report(words: &[&str]) -> Result<String, String> {
-    let usage = "usage: oracle/run sheets PROGRAM [SEED TUNES]";
-    let (program, seed, tunes) = match *words {
-        [program] => (program, 1, TUNES),
-        [program, seed, tunes] => match (seed.parse(), tunes.parse()) {
-            (Ok(seed), Ok(tunes)) => (program, seed, tunes),
-            _ => return Err(usage.to_string()),
-        },
-        _ => return Err(usage.to_string()),
+    let numbers: Result<Vec<u64>, _> = words.iter().skip(1).map(|word| word.parse()).collect();
+    let (program, seed, tunes) = match (words.first(), numbers.as_deref()) {
+        (Some(program), Ok([])) => (program, 1, TUNES),
+        (Some(program), Ok(&[seed, tunes])) => (program, seed, tunes),
+        _ => return Err("usage: oracle/run sheets PROGRAM [SEED TUNES]".to_string()),
     };
     let recorded = plan::files().into_iter().map(|call| call.slots[0].clone());
-    let fresh = (seed..seed + tunes).map(fresh);
     let (mut files, mut rows, mut endings) = (0, 0, BTreeMap::<String, usize>::new());
-    for (i, file) in recorded.chain(fresh).enumerate() {
-        let ours = printed(Path::new(program), file.clone())?;
-        let original = sheet::sheet(&file);
+    for (i, file) in recorded.chain((seed..seed + tunes).map(fresh)).enumerate() {
+        let (ours, original) = (printed(Path::new(program), file.clone())?, sheet::sheet(&file));
         if ours != original {
             return Err(format!("file {i}: {program} says\n{ours}not\n{original}"));
         }
         let last = original.lines().next_back().unwrap_or_default();
-        let ending = last
-            .split_once(',')
-            .filter(|(word, _)| *word != "refused")
-            .map_or(last, |(word, _)| word);
+        let ending = if last.starts_with("refused") {
+            last
+        } else {
+            last.split(',').next().unwrap_or_default()
+        };
         *endings.entry(ending.to_string()).or_default() += 1;
         files += 1;
         rows += original.lines().count() - 2;
@@ -46,10 +42,8 @@ pub fn report(words: &[&str]) -> Result<String, String> {
         .iter()
         .map(|(ending, count)| format!("{count} {ending}"))
         .collect();
-    Ok(format!(
-        "sheets: {files} files and {rows} rows the same ({})\n",
-        endings.join("; ")
-    ))
+    let endings = endings.join("; ");
+    Ok(format!("sheets: {files} files and {rows} rows the same ({endings})\n"))
 }
 
 /// A tune of a seed as a file, walked from Open: steered, busy or made for walks.

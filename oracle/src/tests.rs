@@ -3,7 +3,6 @@
 use crate::calls::{Call, Judge};
 use crate::generate::pitch;
 use crate::list::{self, Case};
-use crate::patch::{Patch, apply};
 
 #[test]
 fn a_list_is_read_whole_or_misread() {
@@ -19,18 +18,4 @@ fn a_list_is_read_whole_or_misread() {
     assert_eq!(list::decode(&list).as_deref(), Ok(&cases[..]));
     assert!((0..list.len()).all(|length| list::decode(&list[..length]).is_err()));
     assert!(list::decode(&[&list[..], &[0]].concat()).is_err());
-}
-
-#[test]
-fn a_patch_fits_exactly_once_or_fails() {
-    let patch = |old| Patch {
-        name: "sample",
-        old,
-        new: "x",
-    };
-    assert_eq!(apply("a b c", &[patch("b")]).unwrap(), "a x c");
-    for (old, times) in [("d", "0 times"), ("a", "2 times")] {
-        let why = apply("a b a", &[patch(old)]).unwrap_err();
-        assert!(why.contains("'sample'") && why.contains(times), "{why}");
-    }
 }

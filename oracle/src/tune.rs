@@ -48,6 +48,7 @@ pub struct Tune {
 }
 
 /// A sample's 20 bytes taken apart.
+#[derive(Debug, PartialEq, Eq)]
 pub struct Sample {
     pub kind: u8,
     pub volume: u8,
