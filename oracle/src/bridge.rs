@@ -4,11 +4,9 @@
 use super::{Channel, PlayerState};
 use crate::header::parse_header;
 use crate::layout::{self, Layout};
-use crate::opl2::AdLibInstrument;
 use crate::pattern::{Cell, Pattern};
-use crate::samples::{Body, SampleBody};
 use crate::state::{Kept, SAMPLE_RATE, STATE_BYTES, State, lay_rest, voice_mark};
-use crate::tune::{CHANNELS, RECORD_BYTES, ROWS, Record, Sample, Tune, WORKED};
+use crate::tune::{CHANNELS, RECORD_BYTES, ROWS, Record, Tune, WORKED};
 
 /// Put into every `sample_pos` before a row is entered. `enter_row` never reads that field and writes it exactly where
 /// it starts a note (a whole number, so never this NaN); so the channels where it is gone afterwards are the struck ones.
@@ -26,7 +24,7 @@ impl Original {
     /// The constructor is handed the worked example's header; every field that a row reads is set behind it.
     pub fn new(tune: &Tune) -> Original {
         let patterns = (0..tune.patterns()).map(|p| pattern(tune, p)).collect();
-        let samples = (0..tune.sample_count()).map(|i| sample(&tune.sample(i))).collect();
+        let samples = (0..tune.sample_count()).map(|i| tune.sample(i)).collect();
         let header = parse_header(WORKED).expect("the worked example is good");
         let mut player = PlayerState::new(&header, samples, patterns, SAMPLE_RATE);
         player.order.clone_from(&tune.orders);
@@ -182,21 +180,10 @@ pub fn walk(tune: &Tune, from: State, limit: usize, mut each: impl FnMut(&State,
 }
 
 fn pattern(tune: &Tune, index: usize) -> Pattern {
-    let cell = |b: &[u8]| Cell { note: b[0], instrument: b[1], volume: b[2], command: b[3], info: b[4] };
     let row = |row| tune.row(index, row).map(cell).collect();
     Pattern { rows: (0..ROWS).map(row).collect() }
 }
 
-fn sample(sample: &Sample) -> SampleBody {
-    SampleBody {
-        pcm: Body { frames: sample.length as usize },
-        pcm_right: None,
-        loop_start: sample.loop_start,
-        loop_end: sample.loop_end,
-        looped: sample.looped,
-        volume: sample.volume,
-        c5_speed: sample.c5_speed,
-        // Its registers are never read.
-        adlib: sample.is_adlib().then(|| AdLibInstrument::from_registers(&[0; 11])),
-    }
+pub fn cell(b: &[u8]) -> Cell {
+    Cell { note: b[0], instrument: b[1], volume: b[2], command: b[3], info: b[4] }
 }

@@ -7,7 +7,7 @@ use crate::player::PlayerState;
 use crate::reader;
 use crate::sheet::RATE;
 use crate::state::SAMPLE_RATE;
-use crate::tune::{ChannelOpening, ROWS, Sample, Tune};
+use crate::tune::{ROWS, SAMPLE_BYTES, Tune, le32};
 use std::fmt::Debug;
 
 pub fn report(file: &[u8]) -> String {
@@ -61,17 +61,16 @@ fn see_cells(found: &mut Differences, tune: &Tune, patterns: &[Pattern]) {
 }
 
 fn see_samples(found: &mut Differences, tune: &Tune, instruments: &[Instrument]) {
-    for (i, theirs) in instruments.iter().enumerate() {
-        let read = Sample {
-            kind: theirs.kind,
-            volume: theirs.volume,
-            looped: theirs.is_looped(),
-            length: theirs.length,
-            loop_start: theirs.loop_start,
-            loop_end: theirs.loop_end,
-            c5_speed: theirs.c5_speed,
-        };
-        found.compare(format!("instrument {}", i + 1), tune.sample(i), read);
+    for (i, (ours, theirs)) in tune.samples.chunks_exact(SAMPLE_BYTES).zip(instruments).enumerate() {
+        let mut see =
+            |field: &str, ours: u32, theirs: u32| found.compare(format!("instrument {} {field}", i + 1), ours, theirs);
+        see("type", ours[0].into(), theirs.kind.into());
+        see("volume", ours[1].into(), theirs.volume.into());
+        see("looped", ours[2].into(), theirs.is_looped().into());
+        see("length", le32(ours, 4), theirs.length);
+        see("loop start", le32(ours, 8), theirs.loop_start);
+        see("loop end", le32(ours, 12), theirs.loop_end);
+        see("c5 speed", le32(ours, 16), theirs.c5_speed);
     }
 }
 
@@ -85,12 +84,10 @@ fn see_opening(found: &mut Differences, tune: &Tune, header: &S3mHeader) {
     found.compare("Amiga limits", ours.amiga_limits, player.amiga_limits);
     found.compare("fast slides", ours.fast_slides, player.fast_slides);
     for (i, (ours, theirs)) in ours.channels.iter().zip(&player.channels).enumerate() {
-        let read = ChannelOpening {
-            pan: theirs.pan,
-            muted: theirs.muted,
-            right_bank: theirs.right_bank,
-            adlib: theirs.adlib,
-        };
-        found.compare(format!("channel {i}"), *ours, read);
+        let mut see = |field: &str, ours: u8, theirs: u8| found.compare(format!("channel {i} {field}"), ours, theirs);
+        see("pan", ours.pan, theirs.pan);
+        see("muted", ours.muted.into(), theirs.muted.into());
+        see("right bank", ours.right_bank.into(), theirs.right_bank.into());
+        see("AdLib", ours.adlib.into(), theirs.adlib.into());
     }
 }

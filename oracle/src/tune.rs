@@ -1,6 +1,8 @@
 //! The tables that a call is lent, byte for byte as document 01 lays them out, with the opening values.
 
 use crate::layout::{self, Layout};
+use crate::opl2::AdLibInstrument;
+use crate::samples::{Body, SampleBody};
 
 pub const CHANNELS: usize = 32;
 pub const ROWS: usize = 64;
@@ -47,37 +49,6 @@ pub struct Tune {
     pub opening: Opening,
 }
 
-/// A sample's 20 bytes taken apart.
-#[derive(Debug, PartialEq, Eq)]
-pub struct Sample {
-    pub kind: u8,
-    pub volume: u8,
-    pub looped: bool,
-    pub length: u32,
-    pub loop_start: u32,
-    pub loop_end: u32,
-    pub c5_speed: u32,
-}
-
-impl Sample {
-    /// Types 2 to 7 are AdLib.
-    pub fn is_adlib(&self) -> bool {
-        (2..=7).contains(&self.kind)
-    }
-
-    fn decode(b: &[u8]) -> Sample {
-        Sample {
-            kind: b[0],
-            volume: b[1],
-            looped: b[2] != 0,
-            length: le32(b, 4),
-            loop_start: le32(b, 8),
-            loop_end: le32(b, 12),
-            c5_speed: le32(b, 16),
-        }
-    }
-}
-
 impl Tune {
     pub fn patterns(&self) -> usize {
         self.cells.len() / PATTERN_BYTES
@@ -87,8 +58,22 @@ impl Tune {
         self.samples.len() / SAMPLE_BYTES
     }
 
-    pub fn sample(&self, index: usize) -> Sample {
-        Sample::decode(&self.samples[index * SAMPLE_BYTES..][..SAMPLE_BYTES])
+    /// A sample for the original. Types 2 to 7 are AdLib, whose registers are never read.
+    pub fn sample(&self, index: usize) -> SampleBody {
+        let b = &self.samples[index * SAMPLE_BYTES..][..SAMPLE_BYTES];
+        let adlib = (2..=7).contains(&b[0]);
+        SampleBody {
+            pcm: Body {
+                frames: le32(b, 4) as usize,
+            },
+            pcm_right: None,
+            loop_start: le32(b, 8),
+            loop_end: le32(b, 12),
+            looped: b[2] != 0,
+            volume: b[1],
+            c5_speed: le32(b, 16),
+            adlib: adlib.then(|| AdLibInstrument::from_registers(&[0; 11])),
+        }
     }
 
     /// The cells of a row, channel by channel: note, instrument, volume, command, info.

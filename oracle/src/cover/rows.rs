@@ -3,11 +3,13 @@
 use super::{Needed, Tally};
 use crate::factors;
 use crate::generate::pitch;
+use crate::pattern::Cell;
 use crate::plan::{C5_SPEEDS, PERIODS, frequencies};
 use crate::player::cmd::*;
 use crate::player::{Channel, PERIOD_TABLE};
+use crate::samples::SampleBody;
 use crate::state::{KEYED, RELEASED, State, voice_mark};
-use crate::tune::{Sample, Tune};
+use crate::tune::Tune;
 
 /// As many different infos, 0 among them, must be met with each command.
 const INFOS: usize = 20;
@@ -44,41 +46,29 @@ pub fn needs(tally: &mut Tally) {
 
 /// A cell of a row being entered, with its channel before and after.
 pub struct Seen<'a> {
-    pub cell: &'a [u8],
+    pub cell: Cell,
     pub before: &'a Channel,
     pub after: &'a Channel,
     pub struck: bool,
 }
 
 impl Seen<'_> {
-    fn note(&self) -> u8 {
-        self.cell[0]
-    }
-
-    fn command(&self) -> u8 {
-        self.cell[3]
-    }
-
-    fn raw_info(&self) -> u8 {
-        self.cell[4]
-    }
-
     /// The info that acts, recalled where it is 0.
     fn info(&self) -> u8 {
         self.after.info
     }
 
     fn is_slide(&self) -> bool {
-        matches!(self.command(), G_TONE_PORTA | L_PORT_VOL)
+        matches!(self.cell.command, G_TONE_PORTA | L_PORT_VOL)
     }
 
     /// Which of the 64 fine slides it is.
     fn factor(&self) -> Option<usize> {
-        let fine = matches!(self.command(), E_SLIDE_DOWN | F_SLIDE_UP) && self.info() >= 0xE0;
-        fine.then(|| factors::index(self.command(), self.info()))
+        let fine = matches!(self.cell.command, E_SLIDE_DOWN | F_SLIDE_UP) && self.info() >= 0xE0;
+        fine.then(|| factors::index(self.cell.command, self.info()))
     }
 
-    fn sample(&self, tune: &Tune) -> Option<Sample> {
+    fn sample(&self, tune: &Tune) -> Option<SampleBody> {
         let number = usize::from(self.after.instrument);
         (1..=tune.sample_count())
             .contains(&number)
@@ -92,10 +82,10 @@ pub struct Infos(std::collections::BTreeMap<u8, std::collections::BTreeSet<u8>>)
 
 impl Infos {
     fn see(&mut self, tally: &mut Tally, cell: &Seen) {
-        let met = self.0.entry(cell.command()).or_default();
-        met.insert(cell.raw_info());
+        let met = self.0.entry(cell.cell.command).or_default();
+        met.insert(cell.cell.info);
         if met.len() >= INFOS && met.contains(&0) {
-            tally.note(format!("command {} with {INFOS} infos and 0", cell.command()));
+            tally.note(format!("command {} with {INFOS} infos and 0", cell.cell.command));
         }
     }
 }
@@ -116,12 +106,12 @@ pub fn see(tally: &mut Tally, infos: &mut Infos, tune: &Tune, seen: &[Seen], [be
 
 /// The last low nibble of S with this subcommand on the row.
 fn request(seen: &[Seen], sub: u8) -> Option<u8> {
-    let extended = |cell: &&Seen| cell.command() == S_EXTENDED && cell.info() >> 4 == sub;
+    let extended = |cell: &&Seen| cell.cell.command == S_EXTENDED && cell.info() >> 4 == sub;
     seen.iter().rfind(extended).map(|cell| cell.info() & 0x0F)
 }
 
 fn see_path(tally: &mut Tally, seen: &[Seen], before: &State, entered: &State) {
-    let has = |command: u8| seen.iter().filter(move |cell| cell.command() == command);
+    let has = |command: u8| seen.iter().filter(move |cell| cell.cell.command == command);
     let is_valid = |cell: &Seen| (cell.info() >> 4) * 10 + (cell.info() & 15) < 64;
     let breaks = |valid: bool| has(C_PAT_BREAK).any(|cell| is_valid(cell) == valid);
     let (by_order, by_row) = (has(B_POS_JUMP).count() > 0, breaks(true));
@@ -150,7 +140,7 @@ fn see_path(tally: &mut Tally, seen: &[Seen], before: &State, entered: &State) {
 }
 
 fn see_command(tally: &mut Tally, cell: &Seen) {
-    let (command, zero, sub) = (cell.command(), cell.raw_info() == 0, cell.info() >> 4);
+    let (command, zero, sub) = (cell.cell.command, cell.cell.info == 0, cell.info() >> 4);
     match command {
         0 => {}
         1..=26 if zero => tally.note(format!("{} with info 0", char::from(b'@' + command))),
@@ -158,7 +148,10 @@ fn see_command(tally: &mut Tally, cell: &Seen) {
         27.. => tally.note("command above 26"),
     }
     match command {
-        D_VOL_SLIDE => tally.note(volume_slide(sub, cell.info() & 15)),
+        D_VOL_SLIDE => {
+            let [x, y] = [(sub, 'x'), (cell.info() & 15, 'y')].map(digit);
+            tally.note(format!("D{x}{y}"));
+        }
         S_EXTENDED if zero => tally.note(format!("S00 recalls S{sub:X}x")),
         S_EXTENDED => tally.note(format!("S{sub:X}x fresh")),
         _ => {}
@@ -168,23 +161,18 @@ fn see_command(tally: &mut Tally, cell: &Seen) {
     }
 }
 
-fn volume_slide(x: u8, y: u8) -> &'static str {
-    match (x, y) {
-        (15, 15) => "DFF",
-        (15, 0) => "DF0",
-        (0, 15) => "D0F",
-        (15, _) => "DFy",
-        (_, 15) => "DxF",
-        (0, 0) => "D00",
-        (_, 0) => "Dx0",
-        (0, _) => "D0y",
-        _ => "Dxy",
+/// A nibble of a volume slide: 0, F, or between them.
+fn digit((nibble, between): (u8, char)) -> char {
+    match nibble {
+        0 => '0',
+        15 => 'F',
+        _ => between,
     }
 }
 
 fn see_note(tally: &mut Tally, tune: &Tune, cell: &Seen) {
-    let (note, before, after, sample) = (cell.note(), cell.before, cell.after, cell.sample(tune));
-    let put_off = after.pending_delay.is_some() && cell.raw_info() != 0;
+    let (note, before, after, sample) = (cell.cell.note, cell.before, cell.after, cell.sample(tune));
+    let put_off = after.pending_delay.is_some() && cell.cell.info != 0;
     let slides = cell.is_slide() && sample.is_some();
     let (cut, adlib, voice) = (note == 0xFE && !put_off, before.adlib, before.opl_voice.is_some());
     let target = slides && note < 0xFE && !cell.struck;
@@ -228,9 +216,9 @@ fn see_period(tally: &mut Tally, note: u8, c5: u32) {
     }
 }
 
-fn see_strike(tally: &mut Tally, cell: &Seen, sample: &Sample) {
-    let number = (cell.note() >> 4) * 12 + (cell.note() & 0x0F);
-    let (by_offset, offset) = (cell.command() == O_SAMPLE_OFFSET, u32::from(cell.info()) * 256);
+fn see_strike(tally: &mut Tally, cell: &Seen, sample: &SampleBody) {
+    let number = (cell.cell.note >> 4) * 12 + (cell.cell.note & 0x0F);
+    let (by_offset, offset) = (cell.cell.command == O_SAMPLE_OFFSET, u32::from(cell.info()) * 256);
     let plain = cell.after.sample_pos == f64::from(offset);
     let cleared = cell.before.opl_voice.is_some() && cell.after.opl_voice.is_none();
     tally.note(format!("note number {}", number.min(107)));
@@ -240,7 +228,7 @@ fn see_strike(tally: &mut Tally, cell: &Seen, sample: &Sample) {
         (by_offset && !plain, "note struck by O, offset folded into the loop"),
         (cell.is_slide(), "note struck with G or L"),
         (cell.after.frequency == 0.0, "note struck at frequency 0"),
-        (cell.before.adlib && sample.is_adlib(), "voice keyed"),
+        (cell.before.adlib && sample.adlib.is_some(), "voice keyed"),
         (cleared, "voice cleared by a PCM sample"),
     ]);
     if by_offset {
@@ -248,11 +236,12 @@ fn see_strike(tally: &mut Tally, cell: &Seen, sample: &Sample) {
     }
 }
 
-fn see_offset(tally: &mut Tally, offset: u32, sample: &Sample) {
+fn see_offset(tally: &mut Tally, offset: u32, sample: &SampleBody) {
     let (start, end, on) = (sample.loop_start, sample.loop_end, sample.looped);
-    let (whole, past) = (end > start && end <= sample.length, offset >= end);
+    let (length, past) = (sample.pcm.frames as u32, offset >= end);
+    let whole = end > start && end <= length;
     let (usable, folded) = (on && whole, on && whole && past);
-    let too_long = on && past && end > start && end > sample.length;
+    let too_long = on && past && end > start && end > length;
     tally.note(format!("offset {offset}"));
     tally.anywhere([
         (usable && end == offset + 1, "offset one below the loop's end"),
@@ -278,10 +267,11 @@ fn see_offset(tally: &mut Tally, offset: u32, sample: &Sample) {
 }
 
 fn see_sound(tally: &mut Tally, amiga_limits: bool, cell: &Seen) {
-    let (before, after, instrument, volume) = (cell.before, cell.after, cell.cell[1], cell.cell[2]);
+    let (before, after) = (cell.before, cell.after);
+    let (instrument, volume) = (cell.cell.instrument, cell.cell.volume);
     let limited = after.frequency != before.frequency && pitch::limits().contains(&after.frequency.to_bits());
     let unknown = instrument >= 100 && after.instrument == instrument;
-    let slid = cell.command() == D_VOL_SLIDE && instrument == 0 && volume == 255;
+    let slid = cell.cell.command == D_VOL_SLIDE && instrument == 0 && volume == 255;
     let latched = slid && after.voice_global_vol != before.voice_global_vol;
     let still = cell.is_slide() && before.frequency <= 0.0;
     tally.in_states([
@@ -303,7 +293,7 @@ fn see_slide(tally: &mut Tally, amiga_limits: bool, cell: &Seen) {
     if cell.after.frequency.is_normal() {
         tally.note(format!("factor {factor}"));
     }
-    if cell.note() != 255 {
+    if cell.cell.note != 255 {
         return;
     }
     let (bits, limits) = (cell.before.frequency.to_bits(), if amiga_limits { "on" } else { "off" });

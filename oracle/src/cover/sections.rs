@@ -4,7 +4,7 @@ use super::rows::{self, Infos, Seen};
 use super::{Needed, Tally};
 use crate::list::Case;
 use crate::player::Channel;
-use crate::player::bridge::walk;
+use crate::player::bridge::{cell, walk};
 use crate::rules::MOST_START;
 use crate::state::{CHANNEL_BYTES, HEAD_BYTES, NO_VOICE, RELEASED, State, voice_mark};
 use crate::tune::{RECORD_BYTES, Tune, le32};
@@ -81,11 +81,14 @@ impl Sections {
         }
         let (cells, strikes) = (tune.row(record[1].into(), record[2].into()), le32(record, 16));
         let channels = before.channels.iter().zip(&entered.channels).zip(cells).enumerate();
-        let seen = channels.map(|(i, ((before, after), cell))| Seen {
-            cell,
-            before,
-            after,
-            struck: strikes >> i & 1 == 1,
+        let seen = channels.map(|(i, ((before, after), bytes))| {
+            let (cell, struck) = (cell(bytes), strikes >> i & 1 == 1);
+            Seen {
+                cell,
+                before,
+                after,
+                struck,
+            }
         });
         rows::see(
             tally,
