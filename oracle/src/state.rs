@@ -89,36 +89,22 @@ fn lay_channel(layout: &mut Layout, ch: &mut Channel, kept: &mut [u8; 6]) {
     layout.float(&mut ch.target_frequency);
     let place = f64::from_le_bytes(layout.next(ch.sample_pos.to_le_bytes()));
     // Any NaN is the one that is written.
-    ch.sample_pos = if place.is_nan() {
-        f64::from_bits(0x7FF8 << 48)
-    } else {
-        place
-    };
+    let any = f64::from_bits(0x7FF8 << 48);
+    ch.sample_pos = if place.is_nan() { any } else { place };
     layout.bytes([&mut ch.instrument, &mut ch.volume, &mut ch.pan]);
     layout.flags([&mut ch.active]);
-    layout.bytes([
-        &mut ch.command,
-        &mut ch.info,
-        &mut ch.vibrato_pos,
-        &mut ch.tremolo_pos,
-        &mut ch.last_note,
-    ]);
+    layout.bytes([&mut ch.command, &mut ch.info, &mut ch.vibrato_pos]);
+    layout.bytes([&mut ch.tremolo_pos, &mut ch.last_note]);
     lay_delay(layout, &mut ch.pending_delay);
     layout.flags([&mut ch.glissando]);
     for waveform in [&mut ch.vibrato_waveform, &mut ch.tremolo_waveform] {
         let [byte] = layout.next([*waveform as u8]);
         *waveform = WAVEFORMS[usize::from(byte % 4)];
     }
-    layout.bytes([
-        &mut ch.retrig_counter,
-        &mut ch.tremor_on_counter,
-        &mut ch.tremor_off_counter,
-    ]);
-    layout.bytes([&mut ch.stored_volume]);
-    layout.flags([
-        &mut ch.keep_vibrato_pos_on_new_note,
-        &mut ch.keep_tremolo_pos_on_new_note,
-    ]);
+    layout.bytes([&mut ch.retrig_counter, &mut ch.tremor_on_counter]);
+    layout.bytes([&mut ch.tremor_off_counter, &mut ch.stored_volume]);
+    layout.flags([&mut ch.keep_vibrato_pos_on_new_note]);
+    layout.flags([&mut ch.keep_tremolo_pos_on_new_note]);
     layout.flags([&mut ch.muted, &mut ch.frozen, &mut ch.right_bank, &mut ch.adlib]);
     let [mark] = layout.next([voice_mark(ch)]);
     if mark != voice_mark(ch) {

@@ -12,10 +12,12 @@ const KINDS: [u8; 11] = [0, 1, 2, 3, 4, 5, 6, 7, 8, 9, 255];
 const LEAST_FILES: usize = 600;
 const MOST_FILE_BYTES: usize = 8_192;
 
-/// A file with its lists, what Read is lent, and the rules that are broken.
+/// A file with its lists, the places that its pointers name, what Read is lent, and the rules that are broken.
 struct File<'a> {
     bytes: &'a [u8],
     lists: Lists,
+    instruments: Vec<usize>,
+    patterns: Vec<usize>,
     lent: Lent,
     broken: Vec<u8>,
 }
@@ -86,11 +88,7 @@ pub fn see(tally: &mut Tally, case: &Case) -> Result<(), String> {
     let (call, refusal) = (&case.call, case.answer.refusal());
     let (bytes, lent) = (&call.slots[0][..], call.lent());
     let broken = reader::broken(bytes, &lent);
-    let (name, most) = if call.function == Function::Read {
-        ("Read", 8)
-    } else {
-        ("Measure", 5)
-    };
+    let (name, most) = [("Measure", 5), ("Read", 8)][call.function as usize];
     tally.note(format!("{name} {refusal}"));
     if refusal != broken.first().copied().filter(|&rule| rule <= most).unwrap_or(0) {
         return Err(format!("refused by {refusal}, but broken are {broken:?}"));
@@ -104,15 +102,15 @@ pub fn see(tally: &mut Tally, case: &Case) -> Result<(), String> {
         tally.note(format!("rate {}", call.number));
     }
     if let Some(lists) = Lists::of(bytes).filter(|_| bytes.len() >= 96) {
-        see_file(
-            tally,
-            &File {
-                bytes,
-                lists,
-                lent,
-                broken,
-            },
-        );
+        let file = File {
+            bytes,
+            lists,
+            instruments: lists.instrument_places(bytes),
+            patterns: lists.pattern_places(bytes),
+            lent,
+            broken,
+        };
+        see_file(tally, &file);
     }
     Ok(())
 }
@@ -120,9 +118,11 @@ pub fn see(tally: &mut Tally, case: &Case) -> Result<(), String> {
 fn see_rules(tally: &mut Tally, broken: &[u8]) {
     match *broken {
         [rule] => tally.note(format!("rule {rule} alone")),
-        [1, ref others @ ..] => others
-            .iter()
-            .for_each(|other| tally.note(format!("rule 1 wins over {other}"))),
+        [1, ref others @ ..] => {
+            for other in others {
+                tally.note(format!("rule 1 wins over {other}"));
+            }
+        }
         [rule, other] => tally.note(format!("rules {rule} and {other} alone")),
         _ => {}
     }
@@ -191,7 +191,7 @@ fn see_lent(tally: &mut Tally, file: &File) {
 
 fn see_instrument_ends(tally: &mut Tally, file: &File) {
     let length = file.bytes.len();
-    for at in file.lists.instrument_places(file.bytes) {
+    for &at in &file.instruments {
         let (end, wrapped) = (at + INSTRUMENT_BYTES, at & 0xFFFF);
         let held = at > 0xFFFF && wrapped != 0 && !reader::is_cut_instrument(file.bytes, wrapped);
         let ends = end == length && file.is_good();
@@ -207,22 +207,17 @@ fn see_instrument_ends(tally: &mut Tally, file: &File) {
 }
 
 fn see_pattern_ends(tally: &mut Tally, file: &File) {
-    let (instruments, patterns) = (
-        file.lists.instrument_places(file.bytes),
-        file.lists.pattern_places(file.bytes),
-    );
     let is_cut = |&at: &usize| reader::is_cut_pattern(file.bytes, at);
-    for at in patterns.iter().copied().filter(|&at| at != 0) {
+    for &at in file.patterns.iter().filter(|&&at| at != 0) {
         let wrapped = at & 0xFFFF;
         let held = at > 0xFFFF && wrapped != 0 && !is_cut(&wrapped);
         tally.anywhere([(held, "pattern pointer that 16 bits would cut to the file")]);
         see_pattern_end(tally, file, at);
     }
-    let cut = instruments
-        .iter()
-        .position(|&at| reader::is_cut_instrument(file.bytes, at));
-    let late = cut.is_some_and(|first| first > 0 && first + 1 == instruments.len());
-    let both = late && patterns.first().is_some_and(is_cut) && file.broken == [7, 8];
+    let mut instruments = file.instruments.iter();
+    let cut = instruments.position(|&at| reader::is_cut_instrument(file.bytes, at));
+    let late = cut.is_some_and(|first| first > 0 && first + 1 == file.instruments.len());
+    let both = late && file.patterns.first().is_some_and(is_cut) && file.broken == [7, 8];
     tally.anywhere([(both, "late instrument wins over early pattern")]);
 }
 
@@ -257,14 +252,12 @@ fn see_good(tally: &mut Tally, file: &File) {
     see_places(tally, file);
     see_channels(tally, file.bytes, &file.lists);
     see_switches(tally, file.bytes);
-    let instruments = file
-        .lists
-        .instrument_places(file.bytes)
-        .into_iter()
-        .filter(|&at| at != 0);
-    instruments.for_each(|at| see_instrument(tally, &file.bytes[at..]));
-    let patterns = file.lists.pattern_places(file.bytes).into_iter().filter(|&at| at != 0);
-    patterns.for_each(|at| see_pattern(tally, file.bytes, at));
+    for &at in file.instruments.iter().filter(|&&at| at != 0) {
+        see_instrument(tally, &file.bytes[at..]);
+    }
+    for &at in file.patterns.iter().filter(|&&at| at != 0) {
+        see_pattern(tally, file.bytes, at);
+    }
 }
 
 /// Where instruments and patterns lie: behind the lists, in each other, or before.
@@ -274,11 +267,8 @@ fn see_places(tally: &mut Tally, file: &File) {
         End::Whole(end) => end,
         _ => at,
     };
-    let instruments = lists
-        .instrument_places(bytes)
-        .into_iter()
-        .map(|at| at..at + INSTRUMENT_BYTES);
-    let patterns = lists.pattern_places(bytes).into_iter().map(|at| at..end(at));
+    let instruments = file.instruments.iter().map(|&at| at..at + INSTRUMENT_BYTES);
+    let patterns = file.patterns.iter().map(|&at| at..end(at));
     let (instruments, patterns): (Vec<_>, Vec<_>) = (instruments.collect(), patterns.collect());
     see_parts(tally, "instrument", &instruments, lists);
     see_parts(tally, "pattern", &patterns, lists);
@@ -398,11 +388,10 @@ fn see_pattern(tally: &mut Tally, file: &[u8], at: usize) {
     }
     for entry in &entries {
         tally.note(format!("entry {:#04x}", entry.what));
-        for (field, _) in reader::fields(entry.what)
-            .zip(entry.data)
-            .filter(|(_, byte)| **byte == 0)
-        {
-            tally.note(format!("field {field} of an entry 0"));
+        for (field, byte) in reader::fields(entry.what).zip(entry.data) {
+            if *byte == 0 {
+                tally.note(format!("field {field} of an entry 0"));
+            }
         }
     }
 }

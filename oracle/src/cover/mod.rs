@@ -11,7 +11,7 @@ use crate::list::Case;
 use crate::record;
 use crate::rules;
 use sections::Sections;
-use std::collections::BTreeMap;
+use std::collections::{BTreeMap, BTreeSet};
 use std::path::Path;
 
 const MOST_BYTES: u64 = 3_000_000;
@@ -50,6 +50,8 @@ impl Count {
 struct Tally {
     things: BTreeMap<String, Count>,
     walking: bool,
+    /// The infos met with each command, from states.
+    infos: BTreeMap<u8, BTreeSet<u8>>,
     /// Before the name of a thing that a file has.
     prefix: &'static str,
     /// How many of the things that are asked for were seen.
@@ -147,7 +149,7 @@ pub fn telling(cases: impl Iterator<Item = Case>, first: usize) -> Vec<Case> {
 /// A tally that asks for all that no look names.
 fn asked() -> Tally {
     let mut tally = Tally::default();
-    for needs in [files::needs, rows::needs, sections::needs, refusals::needs] {
+    for needs in [files::needs, rows::needs, refusals::needs] {
         needs(&mut tally);
     }
     tally

@@ -46,13 +46,22 @@ pub fn needs(tally: &mut Tally) {
 
 /// A cell of a row being entered, with its channel before and after.
 pub struct Seen<'a> {
-    pub cell: Cell,
-    pub before: &'a Channel,
-    pub after: &'a Channel,
-    pub struck: bool,
+    before: &'a Channel,
+    after: &'a Channel,
+    cell: Cell,
+    struck: bool,
 }
 
 impl Seen<'_> {
+    pub fn new<'a>(before: &'a Channel, after: &'a Channel, cell: Cell, struck: bool) -> Seen<'a> {
+        Seen {
+            before,
+            after,
+            cell,
+            struck,
+        }
+    }
+
     /// The info that acts, recalled where it is 0.
     fn info(&self) -> u8 {
         self.after.info
@@ -76,22 +85,8 @@ impl Seen<'_> {
     }
 }
 
-/// The infos met with each command, from states.
-#[derive(Default)]
-pub struct Infos(std::collections::BTreeMap<u8, std::collections::BTreeSet<u8>>);
-
-impl Infos {
-    fn see(&mut self, tally: &mut Tally, cell: &Seen) {
-        let met = self.0.entry(cell.cell.command).or_default();
-        met.insert(cell.cell.info);
-        if met.len() >= INFOS && met.contains(&0) {
-            tally.note(format!("command {} with {INFOS} infos and 0", cell.cell.command));
-        }
-    }
-}
-
 /// A row that is not held.
-pub fn see(tally: &mut Tally, infos: &mut Infos, tune: &Tune, seen: &[Seen], [before, entered]: [&State; 2]) {
+pub fn see(tally: &mut Tally, tune: &Tune, seen: &[Seen], [before, entered]: [&State; 2]) {
     see_path(tally, seen, before, entered);
     for cell in seen {
         see_command(tally, cell);
@@ -99,8 +94,16 @@ pub fn see(tally: &mut Tally, infos: &mut Infos, tune: &Tune, seen: &[Seen], [be
         see_sound(tally, entered.amiga_limits, cell);
         see_slide(tally, entered.amiga_limits, cell);
         if !tally.walking {
-            infos.see(tally, cell);
+            see_info(tally, cell.cell.command, cell.cell.info);
         }
+    }
+}
+
+fn see_info(tally: &mut Tally, command: u8, info: u8) {
+    let met = tally.infos.entry(command).or_default();
+    met.insert(info);
+    if met.len() >= INFOS && met.contains(&0) {
+        tally.note(format!("command {command} with {INFOS} infos and 0"));
     }
 }
 

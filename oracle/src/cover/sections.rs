@@ -1,28 +1,18 @@
 //! Sections: where they start and end, their rows, and the same rows in parts.
 
-use super::rows::{self, Infos, Seen};
-use super::{Needed, Tally};
+use super::Tally;
+use super::rows::{self, Seen};
 use crate::list::Case;
 use crate::player::Channel;
 use crate::player::bridge::{cell, walk};
 use crate::rules::MOST_START;
-use crate::state::{CHANNEL_BYTES, HEAD_BYTES, NO_VOICE, RELEASED, State, voice_mark};
+use crate::state::{CHANNEL_BYTES, HEAD_BYTES, NO_VOICE, RELEASED, S_SLOT, State, voice_mark};
 use crate::tune::{RECORD_BYTES, Tune, le32};
 
-pub fn needs(tally: &mut Tally) {
-    for limits in ["on", "off"] {
-        tally.need(
-            Needed::FromStates,
-            &format!("Amiga limits {limits}, fast slides {{}}"),
-            ["on", "off"],
-        );
-    }
-}
-
-/// A section that was not refused, to be found again in parts.
+/// A section that was not refused, to be found again in parts: the tables and the state that it was lent, its records and
+/// the state behind it.
 struct Whole {
-    tables: [Vec<u8>; 3],
-    start: Vec<u8>,
+    lent: [Vec<u8>; 4],
     n: u32,
     records: Vec<u8>,
     end: Vec<u8>,
@@ -30,7 +20,6 @@ struct Whole {
 
 #[derive(Default)]
 pub struct Sections {
-    infos: Infos,
     /// The state behind the last Open, or behind the sections from it.
     walked: Vec<u8>,
     wholes: Vec<Whole>,
@@ -57,7 +46,7 @@ impl Sections {
         see_start(tally, case, &tune, &from);
         let last = walk(&tune, from, case.call.number as usize, |before, entered, record| {
             records.extend(record);
-            self.see_row(tally, &tune, [before, entered], record);
+            see_row(tally, &tune, [before, entered], record);
         });
         let mut expected = output.clone();
         expected[..records.len()].copy_from_slice(&records);
@@ -72,47 +61,13 @@ impl Sections {
         Ok(())
     }
 
-    fn see_row(&mut self, tally: &mut Tally, tune: &Tune, [before, entered]: [&State; 2], record: &[u8]) {
-        let held = before.replaying_for_pattern_delay;
-        let skipped = entered.order_index != before.order_index;
-        tally.both([(skipped, "0xFE skipped"), (held, "row held"), (!held, "row not held")]);
-        if held {
-            return;
-        }
-        let (cells, strikes) = (tune.row(record[1].into(), record[2].into()), le32(record, 16));
-        let channels = before.channels.iter().zip(&entered.channels).zip(cells).enumerate();
-        let seen = channels.map(|(i, ((before, after), bytes))| {
-            let (cell, struck) = (cell(bytes), strikes >> i & 1 == 1);
-            Seen {
-                cell,
-                before,
-                after,
-                struck,
-            }
-        });
-        rows::see(
-            tally,
-            &mut self.infos,
-            tune,
-            &seen.collect::<Vec<_>>(),
-            [before, entered],
-        );
-    }
-
     /// Adds the section to the chain that it goes on from, and looks for a whole one that the chain is.
     fn see_parts(&mut self, tally: &mut Tally, case: &Case, records: Vec<u8>) {
-        let [orders, cells, samples, start, _] = case.call.slots.clone();
+        let [lent @ .., _] = case.call.slots.clone();
         let (n, end) = (case.call.number, case.answer.slots[3].clone());
-        let tables = [orders, cells, samples];
-        let new = Whole {
-            tables,
-            start,
-            n,
-            records,
-            end,
-        };
+        let new = Whole { lent, n, records, end };
         let chain = match self.chain.take() {
-            Some(mut chain) if chain.n == n && chain.tables == new.tables && chain.end == new.start => {
+            Some(mut chain) if chain.n == n && chain.lent[..3] == new.lent[..3] && chain.end == new.lent[3] => {
                 let held = new.records.get(3) == Some(&1);
                 tally.anywhere([
                     (held && n == 7, "row held at a seam of 7"),
@@ -125,15 +80,10 @@ impl Sections {
             }
             _ => new,
         };
-        let same = |whole: &&Whole| {
-            whole.n > n && whole.tables == chain.tables && whole.start == chain.start && whole.end == chain.end
-        };
-        let found = self
-            .wholes
-            .iter()
-            .find(same)
-            .is_some_and(|whole| whole.records == chain.records);
-        let odd = found && State::decode(&chain.start).start > 0;
+        let same = |whole: &&Whole| whole.n > n && whole.lent == chain.lent && whole.end == chain.end;
+        let whole = self.wholes.iter().find(same);
+        let found = whole.is_some_and(|whole| whole.records == chain.records);
+        let odd = found && State::decode(&chain.lent[3]).start > 0;
         tally.anywhere([
             (found && n == 7, "section in parts of 7 rows"),
             (found && n == 1, "section in parts of 1 row"),
@@ -145,6 +95,18 @@ impl Sections {
         } else {
             self.chain = Some(chain);
         }
+    }
+}
+
+fn see_row(tally: &mut Tally, tune: &Tune, [before, entered]: [&State; 2], record: &[u8]) {
+    let held = before.replaying_for_pattern_delay;
+    let skipped = entered.order_index != before.order_index;
+    tally.both([(skipped, "0xFE skipped"), (held, "row held"), (!held, "row not held")]);
+    let (cells, strikes) = (tune.row(record[1].into(), record[2].into()), le32(record, 16));
+    let channels = before.channels.iter().zip(&entered.channels).zip(cells).enumerate();
+    let seen = |(i, ((before, after), bytes))| Seen::new(before, after, cell(bytes), strikes >> i & 1 == 1);
+    if !held {
+        rows::see(tally, tune, &channels.map(seen).collect::<Vec<_>>(), [before, entered]);
     }
 }
 
@@ -167,16 +129,15 @@ fn see_start(tally: &mut Tally, case: &Case, tune: &Tune, state: &State) {
     ]);
     see_state(tally, tune, state);
     let parts = bytes[HEAD_BYTES..].chunks_exact(CHANNEL_BYTES);
-    state
-        .channels
-        .iter()
-        .zip(parts)
-        .for_each(|(channel, part)| see_channel(tally, channel, part));
+    for (channel, part) in state.channels.iter().zip(parts) {
+        see_channel(tally, channel, part);
+    }
 }
 
 fn see_state(tally: &mut Tally, tune: &Tune, state: &State) {
     let (held, hold) = (state.replaying_for_pattern_delay, state.pattern_delay_remaining > 0);
     let (order, owner) = (state.order_index, state.loop_pattern_order);
+    let (limits, slides) = (state.amiga_limits, state.fast_slides);
     tally.in_states([
         (state.loop_count == Some(0), "loop count 0"),
         (owner.is_none(), "loop order absent"),
@@ -195,15 +156,18 @@ fn see_state(tally: &mut Tally, tune: &Tune, state: &State) {
         (tune.samples.is_empty(), "tune without samples"),
         (tune.sample_count() == 99, "tune of 99 samples"),
         (state.global_volume > 64, "global volume above 64"),
+        (limits && slides, "Amiga limits on, fast slides on"),
+        (limits && !slides, "Amiga limits on, fast slides off"),
+        (!limits && slides, "Amiga limits off, fast slides on"),
+        (!limits && !slides, "Amiga limits off, fast slides off"),
     ]);
-    let [limits, slides] = [state.amiga_limits, state.fast_slides].map(|on| if on { "on" } else { "off" });
-    tally.note(format!("Amiga limits {limits}, fast slides {slides}"));
 }
 
 /// A channel of the state that a section starts from, and its bytes.
 fn see_channel(tally: &mut Tally, ch: &Channel, part: &[u8]) {
     let (frequency, voice) = (ch.frequency, voice_mark(ch));
     let nan = ch.sample_pos.is_nan();
+    let kept = part[48 + S_SLOT] != 0 && part[75..80] != [0; 5];
     let other_bits = nan && part[8..16] != ch.sample_pos.to_le_bytes();
     tally.in_states([
         (frequency == f32::INFINITY, "frequency infinite"),
@@ -224,10 +188,7 @@ fn see_channel(tally: &mut Tally, ch: &Channel, part: &[u8]) {
         (part[31] > 3 && part[32] > 3, "waveform above 3"),
         (part[25] == 0 && part[26..30] != [0; 4], "absent delay with bytes"),
         (part[45..48] != [0; 3], "spare bytes of a channel"),
-        (
-            part[48 + 19] != 0 && part[75..80] != [0; 5],
-            "memory slots that nobody reads",
-        ),
+        (kept, "memory slots that nobody reads"),
     ]);
 }
 

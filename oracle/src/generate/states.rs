@@ -131,17 +131,11 @@ fn channel(random: &mut Random, tune: &Tune) -> Channel {
 
 /// The bits of a float that is a number; half of them are usual pitches.
 fn frequency(random: &mut Random) -> u32 {
-    const FAR: [f32; 8] = [
-        0.0,
-        -0.0,
-        f32::INFINITY,
-        f32::NEG_INFINITY,
-        f32::MAX,
-        f32::MIN,
-        f32::MIN_POSITIVE,
-        -f32::MIN_POSITIVE,
+    #[rustfmt::skip]
+    const ODD: [f32; 14] = [
+        0.0, -0.0, f32::INFINITY, f32::NEG_INFINITY, f32::MAX, f32::MIN, f32::MIN_POSITIVE, -f32::MIN_POSITIVE,
+        8_363.0, 16_726.0, 126_703.15, 126_703.16, 1.0, -440.0,
     ];
-    const NEAR: [f32; 6] = [8_363.0, 16_726.0, 126_703.15, 126_703.16, 1.0, -440.0];
     let subnormal = 1 + random.below(0x7F_FFFF) as u32;
     let any = random.number() as u32;
     let any = if f32::from_bits(any).is_nan() {
@@ -149,7 +143,7 @@ fn frequency(random: &mut Random) -> u32 {
     } else {
         any
     };
-    let odd = random.one(&[&FAR[..], &NEAR].concat()).to_bits();
+    let odd = random.one(&ODD).to_bits();
     let usual = (20.0 + random.below(200_000_000) as f32 / 1024.0).to_bits();
     random.weighted(&[(8, usual), (5, odd), (1, subnormal), (1, subnormal | 1 << 31), (1, any)])
 }
