@@ -20,15 +20,19 @@ pub struct Lists {
 }
 
 impl Lists {
+    pub fn new(orders: usize, instruments: usize, patterns: usize, has_pans: bool) -> Lists {
+        Lists {
+            orders,
+            instruments,
+            patterns,
+            has_pans,
+        }
+    }
+
     /// None where the counts or byte 53 are not there.
     pub fn of(file: &[u8]) -> Option<Lists> {
         let count = |at| usize::from(le16(file, at));
-        (file.len() >= 54).then(|| Lists {
-            orders: count(32),
-            instruments: count(34),
-            patterns: count(36),
-            has_pans: file[53] == PANS_MARK,
-        })
+        (file.len() >= 54).then(|| Lists::new(count(32), count(34), count(36), file[53] == PANS_MARK))
     }
 
     /// The lengths that the counts need.

@@ -1,62 +1,46 @@
-//! Writes a tune as an S3M file, as far as the format can say it: a channel that is both
-//! AdLib and on the right bank loses the bank, and what a sample's type forbids is lost.
+//! Writes a tune as an S3M file, as far as the format can say it: a channel that is both AdLib and on the right bank
+//! loses the bank, and what a sample's type forbids is lost.
 
-use crate::tune::{CHANNELS, EMPTY_CELL, ROWS, SAMPLE_BYTES, Tune};
-
-const HEADER: usize = 96;
-const INSTRUMENT: usize = 80;
+use crate::generate::files::Draft;
+use crate::reader::{HEADER_BYTES, INSTRUMENT_BYTES, Lists};
+use crate::tune::{ChannelOpening, EMPTY_CELL, ROWS, SAMPLE_BYTES, Tune};
 
 pub fn write(tune: &Tune) -> Vec<u8> {
-    let mut file = header(tune);
-    file.extend(&tune.orders);
-    let instruments = file.len();
-    let patterns = instruments + 2 * tune.sample_count();
-    file.resize(patterns + 2 * tune.patterns(), 0);
-    file.extend(tune.opening.channels.iter().map(|ch| 0x20 | ch.pan));
+    let lists = Lists::new(tune.orders.len(), tune.sample_count(), tune.patterns(), true);
+    let mut draft = Draft::over(vec![0; HEADER_BYTES], lists);
+    let (opening, file) = (&tune.opening, &mut draft.bytes);
+    file[28..30].copy_from_slice(&[0x1A, 0x10]);
+    file[38] = 16 * u8::from(opening.amiga_limits) + 64 * u8::from(opening.fast_slides);
+    file[40..44].copy_from_slice(&[0x20, 0x13, 2, 0]);
+    file[HEADER_BYTES..lists.instrument_list()].copy_from_slice(&tune.orders);
+    for (i, ch) in opening.channels.iter().enumerate() {
+        file[64 + i] = setting(ch);
+        file[lists.pans() + i] = 0x20 | ch.pan;
+    }
+    draft.set_levels([opening.speed, opening.tempo, opening.global_volume]);
     for (i, sample) in tune.samples.chunks_exact(SAMPLE_BYTES).enumerate() {
-        append(&mut file, instruments + 2 * i, &instrument(sample));
+        let pointer = draft.put(&instrument(sample), || 0);
+        draft.set16(lists.instrument_list() + 2 * i, pointer);
     }
-    for i in 0..tune.patterns() {
-        append(&mut file, patterns + 2 * i, &pattern(tune, i));
+    for i in 0..lists.patterns {
+        let pointer = draft.put(&pattern(tune, i), || 0);
+        draft.set16(lists.pattern_list() + 2 * i, pointer);
     }
-    file
+    draft.bytes
 }
 
-fn header(tune: &Tune) -> Vec<u8> {
-    let opening = &tune.opening;
-    let mut out = vec![0; HEADER];
-    let counts = [tune.orders.len(), tune.sample_count(), tune.patterns()];
-    for (count, at) in counts.into_iter().zip([32, 34, 36]) {
-        out[at..at + 2].copy_from_slice(&(count as u16).to_le_bytes());
-    }
-    out[38] = 16 * u8::from(opening.amiga_limits) + 64 * u8::from(opening.fast_slides);
-    out[28..30].copy_from_slice(&[0x1A, 0x10]);
-    out[40..44].copy_from_slice(&[0x20, 0x13, 2, 0]);
-    out[44..48].copy_from_slice(b"SCRM");
-    out[48..51].copy_from_slice(&[opening.global_volume, opening.speed, opening.tempo]);
-    out[53] = 252;
-    for (ch, setting) in opening.channels.iter().zip(&mut out[64..64 + CHANNELS]) {
-        let kind = match (ch.adlib, ch.right_bank) {
-            (true, _) => 16,
-            (false, true) => 8,
-            (false, false) => 0,
-        };
-        *setting = kind + 128 * u8::from(ch.muted);
-    }
-    out
-}
-
-/// Puts a part on the next paragraph of 16 and its number into the list.
-fn append(file: &mut Vec<u8>, list: usize, part: &[u8]) {
-    file.resize(file.len().next_multiple_of(16), 0);
-    let pointer = (file.len() / 16) as u16;
-    file[list..list + 2].copy_from_slice(&pointer.to_le_bytes());
-    file.extend(part);
+fn setting(ch: &ChannelOpening) -> u8 {
+    let kind = match (ch.adlib, ch.right_bank) {
+        (true, _) => 16,
+        (false, true) => 8,
+        (false, false) => 0,
+    };
+    kind + 128 * u8::from(ch.muted)
 }
 
 /// A sample's 20 bytes as the 80 of an instrument.
-fn instrument(sample: &[u8]) -> [u8; INSTRUMENT] {
-    let mut out = [0; INSTRUMENT];
+fn instrument(sample: &[u8]) -> [u8; INSTRUMENT_BYTES] {
+    let mut out = [0; INSTRUMENT_BYTES];
     out[0] = sample[0];
     out[16..28].copy_from_slice(&sample[4..16]);
     out[28] = sample[1];
@@ -66,30 +50,24 @@ fn instrument(sample: &[u8]) -> [u8; INSTRUMENT] {
     out
 }
 
+/// Of each cell what it says beyond an unnamed one, if anything.
 fn pattern(tune: &Tune, number: usize) -> Vec<u8> {
     let mut out = vec![0; 2];
     for row in 0..ROWS {
         for (channel, cell) in tune.row(number, row).enumerate() {
-            out.extend(entry(channel as u8, cell));
+            let fields = [(0..2, 0x20), (2..3, 0x40), (3..5, 0x80)];
+            let named = fields
+                .into_iter()
+                .filter(|(part, _)| cell[part.clone()] != EMPTY_CELL[part.clone()]);
+            let (parts, bits): (Vec<&[u8]>, Vec<u8>) = named.map(|(part, bit)| (&cell[part], bit)).unzip();
+            if !parts.is_empty() {
+                out.push(channel as u8 + bits.iter().sum::<u8>());
+                out.extend(parts.concat());
+            }
         }
         out.push(0);
     }
     let length = (out.len() as u16).to_le_bytes();
     out[..2].copy_from_slice(&length);
-    out
-}
-
-/// What a cell says beyond an unnamed one; nothing where it says no more.
-fn entry(channel: u8, cell: &[u8]) -> Vec<u8> {
-    let mut out = vec![channel];
-    for (part, bit) in [(0..2, 0x20), (2..3, 0x40), (3..5, 0x80)] {
-        if cell[part.clone()] != EMPTY_CELL[part.clone()] {
-            out[0] |= bit;
-            out.extend(&cell[part]);
-        }
-    }
-    if out.len() == 1 {
-        out.clear();
-    }
     out
 }

@@ -6,7 +6,8 @@ mod draft;
 use crate::random::Random;
 use crate::reader::{INSTRUMENT_BYTES, Lent, Lists, PANS_MARK};
 use crate::tune::{CHANNELS, PATTERN_BYTES, ROWS, SAMPLE_BYTES, le16};
-use draft::{Draft, FLAGS, any_instrument, entry, noise, packed, pattern};
+pub use draft::Draft;
+use draft::{FLAGS, any_instrument, entry, noise, packed, pattern};
 
 const MOST_LENT: Lent = [255, 99 * SAMPLE_BYTES, 6 * PATTERN_BYTES];
 
@@ -46,20 +47,10 @@ fn usual_lent(file: &[u8]) -> Lent {
     std::array::from_fn(|table| needed[table].min(MOST_LENT[table]))
 }
 
-/// So many orders, instruments and patterns, and whether the pans stand behind them.
-fn lists(orders: usize, instruments: usize, patterns: usize, has_pans: bool) -> Lists {
-    Lists {
-        orders,
-        instruments,
-        patterns,
-        has_pans,
-    }
-}
-
 /// A few instruments and one to three patterns.
 fn few(random: &mut Random) -> Lists {
     let [orders, instruments, patterns] = [9, 3, 3].map(|most| 1 + random.index(most));
-    lists(orders, instruments, patterns, random.chance(50))
+    Lists::new(orders, instruments, patterns, random.chance(50))
 }
 
 fn song(random: &mut Random) -> Draft {
@@ -68,7 +59,7 @@ fn song(random: &mut Random) -> Draft {
     let instruments = random.weighted(&[(12, few), (1, many), (1, 99)]);
     let patterns = random.weighted(&[(2, 0), (4, 1), (4, 2), (1, 3), (1, 4), (1, 5), (1, 6)]);
     let pans = random.chance(50);
-    let mut draft = song_of(random, lists(orders, instruments, patterns, pans));
+    let mut draft = song_of(random, Lists::new(orders, instruments, patterns, pans));
     switches(random, &mut draft);
     draft
 }
@@ -112,7 +103,7 @@ fn parts(
     for i in 0..count {
         if i == 0 || random.chance(own) {
             let part = part(random);
-            pointers.push(draft.put(random, &part));
+            pointers.push(draft.put(&part, || random.byte()));
         }
         let (last, shared) = (pointers[pointers.len() - 1], random.one(&pointers));
         draft.set16(list + 2 * i, random.weighted(&[(4, last), (1, shared)]));
@@ -136,7 +127,7 @@ fn switches(random: &mut Random, draft: &mut Draft) {
 
 /// A header with one order. Where byte 53 is no mark, what stands behind the lists is no pan, though it has bit 5.
 fn header(random: &mut Random) -> Draft {
-    let lists = lists(1, 0, 0, random.chance(70));
+    let lists = Lists::new(1, 0, 0, random.chance(70));
     let mut draft = Draft::new(random, lists);
     switches(random, &mut draft);
     if lists.has_pans && random.chance(20) {
@@ -148,7 +139,7 @@ fn header(random: &mut Random) -> Draft {
 
 /// One pattern: first bytes of all kinds, a channel named twice or more, and rows of all channels.
 fn single_pattern(random: &mut Random) -> Draft {
-    let mut draft = Draft::new(random, lists(1, 0, 1, false));
+    let mut draft = Draft::new(random, Lists::new(1, 0, 1, false));
     let kind = random.below(4);
     let row = |random: &mut Random| {
         let (channel, [first, then]) = (random.between(1, 31), [0, 1].map(|_| random.one(&FLAGS)));
@@ -168,7 +159,7 @@ fn single_pattern(random: &mut Random) -> Draft {
     };
     let rows: Vec<Vec<u8>> = (0..ROWS).map(|_| row(random)).collect();
     let part = packed(random, &rows);
-    let pointer = draft.put(random, &part);
+    let pointer = draft.put(&part, || random.byte());
     draft.set16(draft.lists.pattern_list(), pointer);
     draft
 }

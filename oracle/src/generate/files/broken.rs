@@ -1,7 +1,7 @@
 //! Files that break rules: chosen ones, alone and together, or by chance; and files that end with a part, or within it.
 
 use super::draft::{self, Draft, FLAGS, any_instrument, entry, pattern};
-use super::{MOST_LENT, few, lists, scattered};
+use super::{MOST_LENT, few, scattered};
 use crate::random::Random;
 use crate::reader::{HEADER_BYTES, INSTRUMENT_BYTES, Lent, Lists};
 use crate::tune::{ROWS, le16};
@@ -28,12 +28,12 @@ fn whole(random: &mut Random, lists: Lists) -> Draft {
     let mut draft = Draft::new(random, lists);
     for i in 0..lists.instruments.min(3) {
         let part = any_instrument(random);
-        let pointer = draft.put(random, &part);
+        let pointer = draft.put(&part, || random.byte());
         draft.set16(lists.instrument_list() + 2 * i, pointer);
     }
     for i in 0..lists.patterns.min(3) {
         let part = pattern(random, 8);
-        let pointer = draft.put(random, &part);
+        let pointer = draft.put(&part, || random.byte());
         draft.set16(lists.pattern_list() + 2 * i, pointer);
     }
     draft
@@ -41,14 +41,14 @@ fn whole(random: &mut Random, lists: Lists) -> Draft {
 
 /// A file that ends with an instrument or a pattern, or some bytes short of its end.
 pub fn ending(random: &mut Random) -> Draft {
-    let mut draft = whole(random, lists(4, 3, 3, false));
+    let mut draft = whole(random, Lists::new(4, 3, 3, false));
     let place = 2 * random.index(3);
     let (list, part) = if random.chance(40) {
         (draft.lists.instrument_list(), cut_instrument(random))
     } else {
         (draft.lists.pattern_list(), cut_pattern(random))
     };
-    let pointer = draft.put(random, &part);
+    let pointer = draft.put(&part, || random.byte());
     draft.set16(list + place, pointer);
     draft
 }
@@ -114,7 +114,7 @@ fn counts(random: &mut Random, broken: bool) -> Lists {
         4 => (255, 99, 100),
         _ => (257, 3, 3),
     };
-    lists(orders, instruments, patterns, few.has_pans)
+    Lists::new(orders, instruments, patterns, few.has_pans)
 }
 
 /// All lists there, and now and then a count far off.

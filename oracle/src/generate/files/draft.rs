@@ -2,7 +2,7 @@
 
 use crate::random::Random;
 use crate::reader::{HEADER_BYTES, INSTRUMENT_BYTES, Lists, PANS_MARK, follow};
-use crate::tune::{CHANNELS, ROWS};
+use crate::tune::ROWS;
 
 /// The flag bits of an entry, alone and together.
 pub const FLAGS: [u8; 8] = [0, 0x20, 0x40, 0x60, 0x80, 0xA0, 0xC0, 0xE0];
@@ -15,26 +15,31 @@ pub struct Draft {
 impl Draft {
     /// Noise wherever nothing is said, levels in range, all pointers 0.
     pub fn new(random: &mut Random, lists: Lists) -> Draft {
-        let mut bytes = noise(random, HEADER_BYTES);
+        let mut draft = Draft::over(noise(random, HEADER_BYTES), lists);
+        draft.bytes[48] = random.between(0, 64);
+        draft.bytes[49] = random.between(1, 255);
+        draft.bytes[50] = random.between(32, 255);
+        for order in &mut draft.bytes[HEADER_BYTES..lists.instrument_list()] {
+            let (there, odd) = (random.index(lists.patterns + 1) as u8, random.byte());
+            *order = random.weighted(&[(6, there), (1, 0xFE), (1, 0xFF), (1, odd)]);
+        }
+        draft.bytes[lists.pans()..].fill_with(|| random.byte());
+        draft
+    }
+
+    /// A header with the mark of the format, the counts and the mark of pans, and lists of zeros.
+    pub fn over(mut bytes: Vec<u8>, lists: Lists) -> Draft {
         bytes[44..48].copy_from_slice(b"SCRM");
-        bytes[48] = random.between(0, 64);
-        bytes[49] = random.between(1, 255);
-        bytes[50] = random.between(32, 255);
         bytes[53] = match (lists.has_pans, bytes[53]) {
             (true, _) => PANS_MARK,
             (false, PANS_MARK) => 0,
             (false, other) => other,
         };
-        for _ in 0..lists.orders {
-            let (there, odd) = (random.index(lists.patterns + 1) as u8, random.byte());
-            bytes.push(random.weighted(&[(6, there), (1, 0xFE), (1, 0xFF), (1, odd)]));
-        }
-        bytes.resize(lists.pans(), 0);
-        bytes.extend(noise(random, if lists.has_pans { CHANNELS } else { 0 }));
+        bytes.resize(lists.end(), 0);
         let mut draft = Draft { bytes, lists };
-        draft.set16(32, lists.orders as u16);
-        draft.set16(34, lists.instruments as u16);
-        draft.set16(36, lists.patterns as u16);
+        for (at, count) in [(32, lists.orders), (34, lists.instruments), (36, lists.patterns)] {
+            draft.set16(at, count as u16);
+        }
         draft
     }
 
@@ -47,12 +52,10 @@ impl Draft {
         self.bytes[48..51].copy_from_slice(&[volume, speed, tempo]);
     }
 
-    /// Puts a part on the next paragraph, noise before it; its pointer.
-    pub fn put(&mut self, random: &mut Random, part: &[u8]) -> u16 {
-        while !self.bytes.len().is_multiple_of(16) {
-            self.bytes.push(random.byte());
-        }
+    /// Puts a part on the next paragraph, what `pad` gives before it; its pointer.
+    pub fn put(&mut self, part: &[u8], pad: impl FnMut() -> u8) -> u16 {
         let pointer = self.paragraphs();
+        self.bytes.resize_with(16 * usize::from(pointer), pad);
         self.bytes.extend(part);
         pointer
     }
