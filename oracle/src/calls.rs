@@ -88,11 +88,8 @@ impl Call {
 
     pub fn open(tune: &Tune) -> Call {
         let [orders, cells, samples] = [&tune.orders, &tune.cells, &tune.samples].map(Vec::clone);
-        Call::new(
-            Open,
-            0,
-            [orders, cells, samples, tune.opening.encode(), untouched(STATE_BYTES)],
-        )
+        let (opening, state) = (tune.opening.encode(), untouched(STATE_BYTES));
+        Call::new(Open, 0, [orders, cells, samples, opening, state])
     }
 
     /// From the bytes of a state, into an output with so many bytes to spare.
@@ -107,15 +104,10 @@ impl Call {
         Call::new(function, 0, [record.to_vec(), untouched(output)])
     }
 
-    /// The tables that Open or Section is lent.
+    /// The tables that Open or Section is lent, without opening values.
     pub fn tune(&self) -> Tune {
-        let [orders, cells, samples, opening, _] = self.slots.clone();
-        let is_open = self.function == Open;
-        let opening = if is_open {
-            Opening::decode(&opening)
-        } else {
-            Opening::default()
-        };
+        let [orders, cells, samples, ..] = self.slots.clone();
+        let opening = Opening::default();
         Tune {
             orders,
             cells,
@@ -157,7 +149,11 @@ impl Judge {
                 let tune = reader::read_lent(&slots[0], &call.lent(), call.number)?;
                 slots[1..].clone_from_slice(&[tune.orders, tune.samples, tune.cells, tune.opening.encode()]);
             }
-            Open => slots[4] = open(&call.tune()).encode(),
+            Open => {
+                let mut tune = call.tune();
+                tune.opening = Opening::decode(&slots[3]);
+                slots[4] = open(&tune).encode();
+            }
             Section => return Ok(self.section(call, slots)),
             Strikes => return Ok(strikes(slots)),
             Line => {

@@ -1,6 +1,6 @@
 //! The commands of the oracle.
 
-use oracle::{cover, powf, readers, record, sheet, sheets};
+use oracle::{cover, factors, readers, record, sheet};
 use std::io::{self, Read, Write};
 use std::path::Path;
 use std::process::ExitCode;
@@ -27,12 +27,12 @@ fn main() -> ExitCode {
 fn answer(words: &[&str]) -> Result<String, String> {
     match *words {
         ["sheet"] => Ok(sheet::sheet(&standard_input()?)),
-        ["sheets", ref words @ ..] => sheets::report(words),
+        ["sheets", ref words @ ..] => sheet::hold(words),
         ["readers"] => Ok(readers::report(&standard_input()?)),
         ["record", dir] => record::record(Path::new(dir)),
         ["compare", dir] => record::compare(Path::new(dir)),
         ["cover", dir] => cover::report(Path::new(dir)),
-        ["powf"] => Ok(powf::report()),
+        ["powf"] => Ok(factors::report()),
         _ => Err(USAGE.to_string()),
     }
 }

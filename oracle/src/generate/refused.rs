@@ -7,6 +7,8 @@ use crate::rules::MOST_START;
 use crate::state::State;
 use crate::tune::{OPENING_BYTES, PATTERN_BYTES, RECORD_BYTES, SAMPLE_BYTES, Tune, WORKED};
 
+/// What the worked example needs.
+const LENT: [usize; 3] = [1, SAMPLE_BYTES, PATTERN_BYTES];
 const NANS: [u32; 4] = [0x7F80_0001, 0x7FC0_0000, 0xFF80_0001, 0xFFFF_FFFF];
 
 /// A call on a tune, from a state.
@@ -17,10 +19,7 @@ pub fn call(random: &mut Random, tune: &Tune, state: &State) -> Call {
     }
     let (call, slots): (Call, &[usize]) = match random.below(10) {
         0 => (Call::measure(file(random)), &[1]),
-        1 => (
-            Call::read(file(random), random.number() as u32, &[1, SAMPLE_BYTES, PATTERN_BYTES]),
-            &[4],
-        ),
+        1 => (Call::read(file(random), random.number() as u32, &LENT), &[4]),
         2..5 => (open(random, &mut tune), &[3, 4]),
         5..8 => (section(random, &tune, state.clone()), &[3]),
         _ => (record(random), &[]),
@@ -82,27 +81,17 @@ fn open(random: &mut Random, tune: &mut Tune) -> Call {
 /// Section with a state, a size and an output that may break rules 11 and 12.
 fn section(random: &mut Random, tune: &Tune, mut state: State) -> Call {
     break_state(random, &mut state);
-    let mut bytes = if random.chance(50) {
-        unclean(random, &state)
-    } else {
-        state.encode()
-    };
+    let odd = random.chance(50);
+    let mut bytes = if odd { unclean(random, &state) } else { state.encode() };
     if random.chance(15) {
         let at = 64 + 80 * random.index(32) + 4 * random.index(2);
         bytes[at..at + 4].copy_from_slice(&random.one(&NANS).to_le_bytes());
     }
     let far = 65_536 + random.below(1 << 31) as u32;
-    let (n, output) = random.one(&[
-        (far, 0),
-        (3, 3 * RECORD_BYTES - 1),
-        (1, 0),
-        (0, 0),
-        (1, 536),
-        (2, 1_073),
-        (1, 540),
-    ]);
+    let n = random.index(7);
+    let output = [0, 3 * RECORD_BYTES - 1, 0, 0, 536, 1_073, 540][n];
     let mut call = Call::section(tune, bytes, 0, output);
-    call.number = n;
+    call.number = [far, 3, 1, 0, 1, 2, 1][n];
     call
 }
 

@@ -67,10 +67,9 @@ fn rising(room: &[u8], new: &[u8]) -> Vec<Piece> {
     let (mut at, mut going) = (first, false);
     while at < last {
         let step = steps[at - first][usize::from(going)];
-        let (count, from) = if let Step::Copy { from, count } = step {
-            (count, Some(from))
-        } else {
-            (1, None)
+        let (count, from) = match step {
+            Step::Copy { from, count } => (count, Some(from)),
+            _ => (1, None),
         };
         match (step, out.last_mut()) {
             (Step::Same, _) => {}
@@ -101,10 +100,8 @@ fn steps(room: &[u8], new: &[u8], first: usize, last: usize) -> Vec<[Step; 2]> {
 
 /// The first of the cheapest.
 fn cheapest<const N: usize>(ways: [Option<(usize, Step)>; N]) -> (usize, Step) {
-    ways.into_iter()
-        .flatten()
-        .min_by_key(|way| way.0)
-        .expect("own bytes are a way")
+    let ways = ways.into_iter().flatten();
+    ways.min_by_key(|way| way.0).expect("own bytes are a way")
 }
 
 /// A long copy for each place, where there is one: its source and its count.
@@ -128,10 +125,8 @@ fn copies(room: &[u8], new: &[u8], first: usize, last: usize) -> Vec<Option<(usi
         }
         if best.1 < LONG {
             let later = key(new, at).and_then(|key| behind.heads[key]);
-            for from in before
-                .chain(before.next[at], TRIES)
-                .chain(behind.chain(later, TRIES + 1))
-            {
+            let earlier = before.chain(before.next[at], TRIES);
+            for from in earlier.chain(behind.chain(later, TRIES + 1)) {
                 let count = equal(&new[at..last], source(room, new, at, from));
                 best = if count > best.1 { (from, count) } else { best };
             }
