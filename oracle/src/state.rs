@@ -13,7 +13,7 @@ pub const STATE_BYTES: usize = HEAD_BYTES + CHANNELS * CHANNEL_BYTES;
 pub const S_SLOT: usize = 19;
 /// The mixer's rate, which no row reads.
 pub const SAMPLE_RATE: u32 = 44_100;
-pub const WAVEFORMS: [Waveform; 4] = [Waveform::Sine, Waveform::RampDown, Waveform::Square, Waveform::Random];
+const WAVEFORMS: [Waveform; 4] = [Waveform::Sine, Waveform::RampDown, Waveform::Square, Waveform::Random];
 
 /// A voice's mark.
 pub const NO_VOICE: u8 = 0;
@@ -133,7 +133,7 @@ fn lay_delay(layout: &mut Layout, field: &mut Option<PendingTrigger>) {
 }
 
 /// A voice with this mark. Which registers it has is never read.
-pub fn voice(mark: u8) -> Option<OplVoice> {
+fn voice(mark: u8) -> Option<OplVoice> {
     let mut voice = OplVoice::new(AdLibInstrument::from_registers(&[0; 11]), 0, SAMPLE_RATE);
     if mark == RELEASED {
         voice.key_off();

@@ -1,19 +1,15 @@
 //! Odd states: anything that 01's rule 11 accepts, with nothing waiting and not ended.
 
 use super::cells::special;
-use crate::player::bridge::open;
-use crate::player::{Channel, PendingTrigger};
 use crate::random::Random;
-use crate::state::{CHANNEL_BYTES, HEAD_BYTES, KEYED, NO_VOICE, RELEASED, S_SLOT, State, WAVEFORMS, voice};
-use crate::tune::{Tune, le64};
+use crate::state::{CHANNEL_BYTES, HEAD_BYTES, KEYED, NO_VOICE, RELEASED, S_SLOT, State};
+use crate::tune::{CHANNELS, Tune, le64};
 
 /// Odd states of both kinds; one in four has a sample position that is not a number.
 pub fn any_state(random: &mut Random, tune: &Tune) -> State {
-    let steered = random.chance(50);
-    let mut state = if steered {
-        steered_state(random, tune)
-    } else {
-        odd_state(random, tune)
+    let mut state = match random.chance(50) {
+        true => steered_state(random, tune),
+        false => odd_state(random, tune),
     };
     if random.chance(25) {
         let channel = random.index(state.channels.len());
@@ -28,19 +24,11 @@ pub fn odd_state(random: &mut Random, tune: &Tune) -> State {
     let start = random.below(1 << 62);
     let rate = 1 + random.below(100_000) as u32;
     let (own, next) = (Some(order_index), Some(order_index.wrapping_add(1)));
-    let counts = [
-        (3, None),
-        (2, Some(0)),
-        (3, Some(1)),
-        (2, Some(2)),
-        (1, Some(255)),
-        (1, Some(byte)),
-    ];
     State {
         order_index,
         row: random.between(0, 63),
         loop_pattern_order: random.weighted(&[(5, own), (2, None), (2, Some(byte)), (1, next)]),
-        loop_count: random.weighted(&counts),
+        loop_count: loop_count(random, byte),
         loop_start_row: random.between(0, 63),
         pattern_delay_remaining: random.weighted(&[(6, 0), (2, 1), (1, 15), (1, 255)]),
         replaying_for_pattern_delay: random.chance(12),
@@ -51,10 +39,14 @@ pub fn odd_state(random: &mut Random, tune: &Tune) -> State {
         start: random.weighted(&[(2, 0), (4, start), (1, 1 << 62), (1, (1 << 62) - 1)]),
         amiga_limits: random.chance(50),
         fast_slides: random.chance(50),
-        channels: std::array::from_fn(|_| channel(random, tune)),
-        kept: std::array::from_fn(|_| std::array::from_fn(|_| random.byte())),
-        ..open(tune)
+        ..channels(random, tune)
     }
+}
+
+fn loop_count(random: &mut Random, byte: u8) -> Option<u8> {
+    let absent = 256;
+    let count = random.weighted(&[(3, absent), (2, 0), (3, 1), (2, 2), (1, 255), (1, u16::from(byte))]);
+    u8::try_from(count).ok()
 }
 
 /// An odd state whose path fields take every value that rule 11 accepts.
@@ -65,9 +57,8 @@ fn steered_state(random: &mut Random, tune: &Tune) -> State {
     state.order_index = random.weighted(&[(6, state.order_index), (3, place), (1, order)]);
     // The first order from here on that is no 0xFE.
     let skipped = tune.orders.iter().skip(state.order_index.into());
-    let first = state
-        .order_index
-        .saturating_add(skipped.take_while(|&&named| named == 0xFE).count() as u8);
+    let skipped = skipped.take_while(|&&named| named == 0xFE).count() as u8;
+    let first = state.order_index.saturating_add(skipped);
     state.row = random.weighted(&[(4, state.row), (1, 63)]);
     let others = [state.order_index, first.saturating_sub(1), owner].map(|order| (1, Some(order)));
     state.loop_pattern_order = random.weighted(&[&[(5, Some(first)), (2, None)], &others[..]].concat());
@@ -92,41 +83,46 @@ fn order(random: &mut Random, tune: &Tune) -> u8 {
     random.weighted(&[(24, named), (4, other), (1, length), (1, byte)]) as u8
 }
 
-fn channel(random: &mut Random, tune: &Tune) -> Channel {
+/// A state that has nothing but odd channels.
+fn channels(random: &mut Random, tune: &Tune) -> State {
     let count = tune.sample_count() as u8;
-    let known = random.between(0, count);
-    let byte = random.byte();
-    Channel {
-        frequency: f32::from_bits(frequency(random)),
-        target_frequency: f32::from_bits(frequency(random)),
-        sample_pos: f64::from_bits(sample_pos(random)),
-        instrument: random.weighted(&[(8, known), (1, count + 1), (1, 255)]),
-        volume: volume(random),
-        pan: random.weighted(&[(4, byte & 15), (1, 7), (1, 255), (1, byte)]),
-        active: random.chance(70),
-        command: random.between(0, 30),
-        info: random.byte(),
-        vibrato_pos: random.byte(),
-        tremolo_pos: random.byte(),
-        last_note: last_note(random),
-        pending_delay: delay(random),
-        glissando: random.chance(30),
-        vibrato_waveform: random.one(&WAVEFORMS),
-        tremolo_waveform: random.one(&WAVEFORMS),
-        retrig_counter: random.byte(),
-        tremor_on_counter: random.byte(),
-        tremor_off_counter: random.byte(),
-        stored_volume: volume(random),
-        keep_vibrato_pos_on_new_note: random.chance(40),
-        keep_tremolo_pos_on_new_note: random.chance(40),
-        muted: random.chance(20),
-        frozen: random.chance(40),
-        right_bank: random.chance(50),
-        adlib: random.chance(40),
-        opl_voice: voice(random.weighted(&[(6, NO_VOICE), (2, KEYED), (2, RELEASED)])),
-        voice_global_vol: random.byte(),
-        effect_memory: memory(random),
+    let mut bytes = vec![0; HEAD_BYTES];
+    for i in 0..CHANNELS {
+        bytes.extend(channel(random, count));
+        bytes[32 + i] = s_info(random);
     }
+    for part in bytes[HEAD_BYTES..].chunks_exact_mut(CHANNEL_BYTES) {
+        part[48 + S_SLOT] = random.byte();
+        part[48 + 27..].fill_with(|| random.byte());
+    }
+    State::decode(&bytes)
+}
+
+/// The bytes of a channel in their order, but for the memory that nobody reads.
+fn channel(random: &mut Random, count: u8) -> Vec<u8> {
+    let (known, byte) = (random.between(0, count), random.byte());
+    let mut out = [frequency(random), frequency(random)].map(u32::to_le_bytes).concat();
+    out.extend(sample_pos(random).to_le_bytes());
+    let instrument = random.weighted(&[(8, known), (1, count + 1), (1, 255)]);
+    out.extend([instrument, volume(random)]);
+    let pan = random.weighted(&[(4, byte & 15), (1, 7), (1, 255), (1, byte)]);
+    out.extend([pan, random.chance(70).into(), random.between(0, 30)]);
+    // The info, the places of vibrato and tremolo.
+    out.extend([random.byte(), random.byte(), random.byte(), last_note(random)]);
+    out.extend(delay(random));
+    // Glissando, two waveforms, three counters, the stored volume.
+    out.extend([random.chance(30).into(), random.index(4) as u8, random.index(4) as u8]);
+    out.extend([random.byte(), random.byte(), random.byte(), volume(random)]);
+    // Two kept places, muted, frozen, right bank, AdLib.
+    out.extend([40, 40, 20, 40, 50, 40].map(|percent| u8::from(random.chance(percent))));
+    let voice = random.weighted(&[(6, NO_VOICE), (2, KEYED), (2, RELEASED)]);
+    out.extend([voice, random.byte(), 0, 0, 0]);
+    for _ in 0..27 {
+        let byte = random.byte();
+        out.push(random.weighted(&[(1, 0), (3, byte)]));
+    }
+    out.resize(CHANNEL_BYTES, 0);
+    out
 }
 
 /// The bits of a float that is a number; half of them are usual pitches.
@@ -167,28 +163,18 @@ fn last_note(random: &mut Random) -> u8 {
     random.weighted(&[(5, usual), (2, 0), (1, 0xFE), (1, 0xFF), (2, byte)])
 }
 
-fn delay(random: &mut Random) -> Option<PendingTrigger> {
+/// A mark, a tick, a note, an instrument and a volume, or nothing.
+fn delay(random: &mut Random) -> [u8; 5] {
     let tick = random.byte();
-    let fire_tick = random.weighted(&[(6, tick & 15), (1, tick), (1, 0)]);
-    let [note, instrument, volume] = std::array::from_fn(|_| random.byte());
-    let delay = PendingTrigger {
-        fire_tick,
-        note,
-        instrument,
-        volume,
-    };
-    random.weighted(&[(3, None), (1, Some(delay))])
+    let tick = random.weighted(&[(6, tick & 15), (1, tick), (1, 0)]);
+    let delay = [1, tick, random.byte(), random.byte(), random.byte()];
+    random.weighted(&[(3, [0; 5]), (1, delay)])
 }
 
-/// Remembered infos; S often remembers a loop, a put-off cell or a hold.
-fn memory(random: &mut Random) -> [u8; 27] {
-    let mut out = std::array::from_fn(|_| {
-        let byte = random.byte();
-        random.weighted(&[(1, 0), (3, byte)])
-    });
+/// S often remembers a loop, a put-off cell or a hold.
+fn s_info(random: &mut Random) -> u8 {
     let (low, byte) = (random.between(0, 15), random.byte());
-    out[S_SLOT] = random.weighted(&[(2, 0xB0 | low), (3, 0xD0 | low), (2, 0xE0 | low), (6, byte), (1, 0)]);
-    out
+    random.weighted(&[(2, 0xB0 | low), (3, 0xD0 | low), (2, 0xE0 | low), (6, byte), (1, 0)])
 }
 
 /// A state's bytes in another way that says the same: flags above 1, waveforms above 3, any NaN, noise in bytes that
