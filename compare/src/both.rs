@@ -1,15 +1,14 @@
 //! A call put to the library and to the judge.
 
 use crate::library;
-use oracle::calls::{Answer, Call, Function, Judge};
+use oracle::calls::{self, Answer, Call, Function};
 use oracle::state::{CHANNEL_BYTES, HEAD_BYTES};
 use oracle::tune::RECORD_BYTES;
 use std::collections::BTreeMap;
 
-/// The judge, and how many calls were compared, by what they answered.
+/// How many calls were compared, by what they answered.
 #[derive(Default)]
 pub struct Both {
-    judge: Judge,
     pub calls: u64,
     refused: BTreeMap<u8, u64>,
 }
@@ -17,7 +16,7 @@ pub struct Both {
 impl Both {
     /// The answer that both give, with the same bytes in every slot.
     pub fn same(&mut self, call: &Call) -> Result<Answer, String> {
-        let (ours, theirs) = (library::answer(call), self.judge.answer(call));
+        let (ours, theirs) = (library::answer(call), calls::answer(call));
         self.calls += 1;
         *self.refused.entry(theirs.refusal()).or_default() += 1;
         compared(call, &ours, &theirs)?;

@@ -122,66 +122,49 @@ impl Call {
     }
 }
 
-/// Keeps the original of the tables that it was last asked about.
-#[derive(Default)]
-pub struct Judge(Option<(Tune, Original)>);
+/// The judge's answer.
+pub fn answer(call: &Call) -> Answer {
+    let mut slots = call.slots.clone();
+    let given = match rules::broken(call).first() {
+        Some(&(rule, _)) => Err(rule),
+        None => write(call, &mut slots),
+    };
+    let number = given.unwrap_or_else(|rule| u32::from(rule) << 24);
+    Answer { number, slots }
+}
 
-impl Judge {
-    pub fn answer(&mut self, call: &Call) -> Answer {
-        let mut slots = call.slots.clone();
-        let given = match rules::broken(call).first() {
-            Some(&(rule, _)) => Err(rule),
-            None => self.write(call, &mut slots),
-        };
-        let number = given.unwrap_or_else(|rule| u32::from(rule) << 24);
-        Answer { number, slots }
-    }
-
-    /// What a call gives that breaks none of the rules 9 to 13.
-    fn write(&mut self, call: &Call, slots: &mut Slots) -> Result<u32, u8> {
-        match call.function {
-            Measure => {
-                let lists = reader::measure(&slots[0])?;
-                let counts = [lists.orders, lists.instruments, lists.patterns];
-                slots[1] = counts.iter().flat_map(|&count| (count as u32).to_le_bytes()).collect();
-            }
-            Read => {
-                let tune = reader::read_lent(&slots[0], &call.lent(), call.number)?;
-                slots[1..].clone_from_slice(&[tune.orders, tune.samples, tune.cells, tune.opening.encode()]);
-            }
-            Open => {
-                let mut tune = call.tune();
-                tune.opening = Opening::decode(&slots[3]);
-                slots[4] = open(&tune).encode();
-            }
-            Section => return Ok(self.section(call, slots)),
-            Strikes => return Ok(strikes(slots)),
-            Line => {
-                let line = sheet::line(&slots[0]);
-                slots[1][..line.len()].copy_from_slice(line.as_bytes());
-                return Ok(line.len() as u32);
-            }
+/// What a call gives that breaks none of the rules 9 to 13.
+fn write(call: &Call, slots: &mut Slots) -> Result<u32, u8> {
+    match call.function {
+        Measure => {
+            let lists = reader::measure(&slots[0])?;
+            let counts = [lists.orders, lists.instruments, lists.patterns];
+            slots[1] = counts.iter().flat_map(|&count| (count as u32).to_le_bytes()).collect();
         }
-        Ok(0)
-    }
-
-    /// Rows in bits 0 to 15, whether the tune has ended in bit 16.
-    fn section(&mut self, call: &Call, slots: &mut Slots) -> u32 {
-        let original = self.original(call);
-        let rows = original.rows_recorded(&call.slots[3], call.number as usize, &mut slots[4]);
-        slots[3] = original.bytes();
-        rows as u32 | u32::from(slots[3][9]) << 16
-    }
-
-    fn original(&mut self, call: &Call) -> &mut Original {
-        let tune = call.tune();
-        if self.0.as_ref().is_none_or(|(known, _)| *known != tune) {
-            let original = Original::new(&tune);
-            self.0 = Some((tune, original));
+        Read => {
+            let tune = reader::read_lent(&slots[0], &call.lent(), call.number)?;
+            slots[1..].clone_from_slice(&[tune.orders, tune.samples, tune.cells, tune.opening.encode()]);
         }
-        let (_, original) = self.0.as_mut().expect("it was made");
-        original
+        Open => {
+            let mut tune = call.tune();
+            tune.opening = Opening::decode(&slots[3]);
+            slots[4] = open(&tune).encode();
+        }
+        Section => {
+            // Rows in bits 0 to 15, whether the tune has ended in bit 16.
+            let mut original = Original::new(&call.tune());
+            let rows = original.rows_recorded(&call.slots[3], call.number as usize, &mut slots[4]);
+            slots[3] = original.bytes();
+            return Ok(rows as u32 | u32::from(slots[3][9]) << 16);
+        }
+        Strikes => return Ok(strikes(slots)),
+        Line => {
+            let line = sheet::line(&slots[0]);
+            slots[1][..line.len()].copy_from_slice(line.as_bytes());
+            return Ok(line.len() as u32);
+        }
     }
+    Ok(0)
 }
 
 /// The struck channels, in the order of their numbers: 01 leaves it free, and the port lists them so.

@@ -2,7 +2,7 @@
 
 mod pieces;
 
-use crate::calls::{Answer, Call, Function, Slots};
+use crate::calls::{self, Answer, Call, Function, Slots};
 use crate::tune::le32;
 use pieces::pieces;
 
@@ -16,6 +16,13 @@ const BYTES: u32 = u32::MAX;
 pub struct Case {
     pub call: Call,
     pub answer: Answer,
+}
+
+impl Case {
+    pub fn of(call: Call) -> Case {
+        let answer = calls::answer(&call);
+        Case { call, answer }
+    }
 }
 
 fn rooms() -> Slots {

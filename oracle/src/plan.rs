@@ -3,7 +3,7 @@
 mod pitch;
 mod rows;
 
-use crate::calls::{Answer, Call, Function, Judge};
+use crate::calls::{Answer, Call, Function};
 use crate::cover;
 use crate::generate::{self, Purpose, files};
 use crate::list::Case;
@@ -21,13 +21,12 @@ const REFUSED: usize = 4_000;
 /// The calls with the judge's answers, in the order of the list.
 #[derive(Default)]
 pub struct Asked {
-    judge: Judge,
     pub cases: Vec<Case>,
 }
 
 impl Asked {
     fn ask(&mut self, call: Call) -> Answer {
-        let case = case(&mut self.judge, call);
+        let case = Case::of(call);
         let answer = case.answer.clone();
         self.cases.push(case);
         answer
@@ -55,11 +54,7 @@ pub fn recorded() -> Vec<Case> {
 
 /// Read's calls on files: of many seeds those that show something new.
 pub fn files() -> Vec<Call> {
-    let made = (0..FILE_SEEDS).map(files::made);
-    telling(
-        made.map(|made| Call::read(&made.file, made.rate, &made.lent)),
-        FIRST_FILES,
-    )
+    telling((0..FILE_SEEDS).map(files::made), FIRST_FILES)
 }
 
 /// Calls that break rules 9 to 13 and 255, on one tune of one pattern: of many those that show something new.
@@ -73,14 +68,8 @@ fn refused() -> Vec<Call> {
 }
 
 fn telling(calls: impl Iterator<Item = Call>, first: usize) -> Vec<Call> {
-    let mut judge = Judge::default();
-    let cases = cover::telling(calls.map(|call| case(&mut judge, call)), first);
+    let cases = cover::telling(calls.map(Case::of), first);
     cases.into_iter().map(|case| case.call).collect()
-}
-
-fn case(judge: &mut Judge, call: Call) -> Case {
-    let answer = judge.answer(&call);
-    Case { call, answer }
 }
 
 /// Strikes and Line of recorded rows, by their heads.

@@ -3,6 +3,7 @@
 mod broken;
 mod draft;
 
+use crate::calls::Call;
 use crate::random::Random;
 use crate::reader::{INSTRUMENT_BYTES, Lent, Lists, PANS_MARK};
 use crate::tune::{CHANNELS, PATTERN_BYTES, ROWS, SAMPLE_BYTES, le16};
@@ -11,15 +12,8 @@ use draft::{FLAGS, any_instrument, entry, noise, packed, pattern};
 
 const MOST_LENT: Lent = [255, 99 * SAMPLE_BYTES, 6 * PATTERN_BYTES];
 
-/// A file with what Read is lent and handed.
-pub struct Made {
-    pub file: Vec<u8>,
-    pub lent: Lent,
-    pub rate: u32,
-}
-
-/// The file of a seed: its kind is drawn first.
-pub fn made(seed: u64) -> Made {
+/// Read's call on the file of a seed: its kind is drawn first.
+pub fn made(seed: u64) -> Call {
     let random = &mut Random::new(seed);
     let (inside, any) = (random.below(100_001) as u32, random.number() as u32);
     let edge = random.one(&[0, 1, 100_000, 100_001, u32::MAX]);
@@ -37,7 +31,7 @@ pub fn made(seed: u64) -> Made {
     if other.unwrap_or_else(|| random.chance(10)) {
         broken::change_lent(random, &mut lent);
     }
-    Made { file, lent, rate }
+    Call::read(&file, rate, &lent)
 }
 
 /// As long as the file's counts need, as far as that goes; 0 without counts.
