@@ -18,38 +18,31 @@ const FIRST_FILES: usize = 570;
 const REFUSED_SEED: u64 = 932;
 const REFUSED: usize = 4_000;
 
-/// The calls with the judge's answers, in the order of the list.
-#[derive(Default)]
-pub struct Asked {
-    pub cases: Vec<Case>,
+/// Adds a call with the judge's answer to the list.
+fn ask(asked: &mut Vec<Case>, call: Call) -> Answer {
+    let case = Case::of(call);
+    let answer = case.answer.clone();
+    asked.push(case);
+    answer
 }
 
-impl Asked {
-    fn ask(&mut self, call: Call) -> Answer {
-        let case = Case::of(call);
-        let answer = case.answer.clone();
-        self.cases.push(case);
-        answer
-    }
-
-    /// Open's state.
-    fn open(&mut self, tune: &Tune) -> Vec<u8> {
-        let [.., state] = self.ask(Call::open(tune)).slots;
-        state
-    }
+/// Open's state.
+fn ask_open(asked: &mut Vec<Case>, tune: &Tune) -> Vec<u8> {
+    let [.., state] = ask(asked, Call::open(tune)).slots;
+    state
 }
 
 pub fn recorded() -> Vec<Case> {
-    let mut asked = Asked::default();
+    let mut asked = Vec::new();
     for file in files() {
-        asked.ask(Call::measure(&file.slots[0]));
-        asked.ask(file);
+        ask(&mut asked, Call::measure(&file.slots[0]));
+        ask(&mut asked, file);
     }
     rows::add(&mut asked);
     pitch::add(&mut asked);
-    refused().into_iter().for_each(|call| drop(asked.ask(call)));
+    refused().into_iter().for_each(|call| drop(ask(&mut asked, call)));
     records(&mut asked);
-    asked.cases
+    asked
 }
 
 /// Read's calls on files: of many seeds those that show something new.
@@ -73,18 +66,15 @@ fn telling(calls: impl Iterator<Item = Call>, first: usize) -> Vec<Call> {
 }
 
 /// Strikes and Line of recorded rows, by their heads.
-fn records(asked: &mut Asked) {
-    let sections = asked
-        .cases
-        .iter()
-        .filter(|case| case.call.function == Function::Section);
+fn records(asked: &mut Vec<Case>) {
+    let sections = asked.iter().filter(|case| case.call.function == Function::Section);
     let rows = sections.flat_map(|case| case.answer.records()).step_by(23);
     let rows: Vec<Vec<u8>> = rows.map(<[u8]>::to_vec).collect();
     let mut record = rows[0].clone();
     for row in rows {
         record[..24].copy_from_slice(&row[..24]);
         for function in [Function::Strikes, Function::Line] {
-            asked.ask(Call::of_record(function, &record, 70));
+            ask(asked, Call::of_record(function, &record, 70));
         }
     }
 }

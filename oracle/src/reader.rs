@@ -37,11 +37,8 @@ impl Lists {
 
     /// The lengths that the counts need.
     pub fn needs(&self) -> Lent {
-        [
-            self.orders,
-            self.instruments * SAMPLE_BYTES,
-            self.patterns * PATTERN_BYTES,
-        ]
+        let (samples, cells) = (self.instruments * SAMPLE_BYTES, self.patterns * PATTERN_BYTES);
+        [self.orders, samples, cells]
     }
 
     /// Where the lists behind the orders begin: instrument pointers, pattern pointers, pans.

@@ -50,11 +50,8 @@ fn see_cells(found: &mut Differences, tune: &Tune, patterns: &[Pattern]) {
             for (channel, cell) in tune.row(number, row).enumerate() {
                 let their = &pattern.rows[row][channel];
                 let theirs = [their.note, their.instrument, their.volume, their.command, their.info];
-                found.compare(
-                    format!("pattern {number} row {row} channel {channel}"),
-                    cell,
-                    &theirs[..],
-                );
+                let place = format!("pattern {number} row {row} channel {channel}");
+                found.compare(place, cell, &theirs[..]);
             }
         }
     }

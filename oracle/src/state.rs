@@ -120,16 +120,11 @@ fn lay_channel(layout: &mut Layout, ch: &mut Channel, kept: &mut [u8; 6]) {
 }
 
 fn lay_delay(layout: &mut Layout, field: &mut Option<PendingTrigger>) {
-    let delay = field.unwrap_or_default();
-    let there = field.is_some().into();
-    let [mark, bytes @ ..] = layout.next([there, delay.fire_tick, delay.note, delay.instrument, delay.volume]);
-    let [fire_tick, note, instrument, volume] = bytes;
-    *field = (mark != 0).then_some(PendingTrigger {
-        fire_tick,
-        note,
-        instrument,
-        volume,
-    });
+    let (mut there, mut delay) = (field.is_some(), field.unwrap_or_default());
+    layout.flags([&mut there]);
+    layout.bytes([&mut delay.fire_tick, &mut delay.note]);
+    layout.bytes([&mut delay.instrument, &mut delay.volume]);
+    *field = there.then_some(delay);
 }
 
 /// A voice with this mark. Which registers it has is never read.

@@ -177,10 +177,8 @@ fn see_head(tally: &mut Tally, file: &File) {
 
 /// One table alone is a byte off.
 fn see_lent(tally: &mut Tally, file: &File) {
-    let tables = ["orders", "samples", "cells"]
-        .into_iter()
-        .zip(file.lent)
-        .zip(file.lists.needs());
+    let tables = ["orders", "samples", "cells"].into_iter();
+    let tables = tables.zip(file.lent).zip(file.lists.needs());
     let off: Vec<_> = tables.filter(|((_, lent), needs)| lent != needs).collect();
     match off[..] {
         [((table, lent), needs)] if lent + 1 == needs => tally.note(format!("lent {table} one short")),

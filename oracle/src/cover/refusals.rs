@@ -7,11 +7,9 @@ use crate::rules;
 
 pub fn needs(tally: &mut Tally) {
     tally.family("open by rule {}", ["9", "9 before 10", "255", "255 before 9 before 10"]);
-    tally.family(
-        "section by rule {}",
-        ["9", "9 before 11", "9 before 12", "11 before 12"],
-    );
-    tally.family("section by rule {}", ["9 before 11 before 12", "255", "255 before 9"]);
+    tally.family("section by rule {}", ["9", "9 before 11", "9 before 12"]);
+    tally.family("section by rule {}", ["11 before 12", "9 before 11 before 12"]);
+    tally.family("section by rule {}", ["255", "255 before 9"]);
     tally.family("measure by rule {}", ["255", "255, file of 0 bytes"]);
     tally.family("read by rule {}", ["255", "255, file of 0 bytes"]);
     tally.family("rules 12: {}", ["n above 65,535; output too short"]);

@@ -24,11 +24,8 @@ pub fn needs(tally: &mut Tally) {
     tally.need(Needed::Both, "command above {}", [26]);
     let commands = (0..=30).chain([255]);
     tally.need(Needed::FromStates, "command {} with 20 infos and 0", commands);
-    tally.need(
-        Needed::FromStates,
-        "D{}",
-        ["FF", "F0", "0F", "Fy", "xF", "x0", "0y", "xy"],
-    );
+    let slides = ["FF", "F0", "0F", "Fy", "xF", "x0", "0y", "xy"];
+    tally.need(Needed::FromStates, "D{}", slides);
     tally.family("factor {}", 0..64);
     tally.family("note number {}", 0..108);
     for c5 in C5_SPEEDS {
@@ -79,9 +76,8 @@ impl Seen<'_> {
 
     fn sample(&self, tune: &Tune) -> Option<SampleBody> {
         let number = usize::from(self.after.instrument);
-        (1..=tune.sample_count())
-            .contains(&number)
-            .then(|| tune.sample(number - 1))
+        let known = (1..=tune.sample_count()).contains(&number);
+        known.then(|| tune.sample(number - 1))
     }
 }
 
@@ -243,28 +239,20 @@ fn see_offset(tally: &mut Tally, offset: u32, sample: &SampleBody) {
     let (start, end, on) = (sample.loop_start, sample.loop_end, sample.looped);
     let (length, past) = (sample.pcm.frames as u32, offset >= end);
     let whole = end > start && end <= length;
-    let (usable, folded) = (on && whole, on && whole && past);
-    let too_long = on && past && end > start && end > length;
+    let (usable, folded, lost) = (on && whole, on && whole && past, on && !whole && past);
+    let (empty, turned, too_long) = (lost && end == start, lost && end < start, lost && end > start);
+    let one_frame = folded && end - start == 1;
     tally.note(format!("offset {offset}"));
     tally.anywhere([
         (usable && end == offset + 1, "offset one below the loop's end"),
         (usable && end == offset, "offset at the loop's end"),
         (folded && end + 1 == offset, "offset one past the loop's end"),
-        (
-            folded && end - start == 1,
-            "offset past the loop's end, loop of one frame",
-        ),
+        (one_frame, "offset past the loop's end, loop of one frame"),
         (folded && start == 0, "offset past the loop's end, loop from 0"),
         (usable && end == u32::MAX, "offset in a loop to 2^32 - 1"),
         (!on && past && whole, "offset past the end of a loop that is off"),
-        (
-            on && past && end == start,
-            "offset past the end of a loop that is empty",
-        ),
-        (
-            on && past && end < start,
-            "offset past the end of a loop that is turned round",
-        ),
+        (empty, "offset past the end of a loop that is empty"),
+        (turned, "offset past the end of a loop that is turned round"),
         (too_long, "offset past the end of a loop that is longer than its sample"),
     ]);
 }

@@ -16,9 +16,8 @@ fn command_of(letter: u8) -> u8 {
 }
 
 pub fn cells(random: &mut Random, style: &Style) -> Vec<u8> {
-    (0..style.patterns * ROWS)
-        .flat_map(|at| row(random, style, at % ROWS))
-        .collect()
+    let rows = 0..style.patterns * ROWS;
+    rows.flat_map(|at| row(random, style, at % ROWS)).collect()
 }
 
 fn row(random: &mut Random, style: &Style, at: usize) -> [u8; ROW_BYTES] {
@@ -78,11 +77,9 @@ fn free_command(random: &mut Random, style: &Style) -> u8 {
     let often = command_of(random.one(b"DEFGLOS"));
     let above = random.between(27, 255);
     let command = random.weighted(&[(10, command), (8, often), (3, 0), (1, above)]);
-    let jumps = matches!(command, B_POS_JUMP | C_PAT_BREAK);
-    if jumps && !random.chance(style.path) {
-        V_GLOBAL_VOL
-    } else {
-        command
+    match command {
+        B_POS_JUMP | C_PAT_BREAK if !random.chance(style.path) => V_GLOBAL_VOL,
+        _ => command,
     }
 }
 

@@ -133,12 +133,10 @@ fn frequency(random: &mut Random) -> u32 {
         8_363.0, 16_726.0, 126_703.15, 126_703.16, 1.0, -440.0,
     ];
     let subnormal = 1 + random.below(0x7F_FFFF) as u32;
-    let any = random.number() as u32;
-    let any = if f32::from_bits(any).is_nan() {
-        any & 0x807F_FFFF
-    } else {
-        any
-    };
+    let mut any = random.number() as u32;
+    if f32::from_bits(any).is_nan() {
+        any &= 0x807F_FFFF;
+    }
     let odd = random.one(&ODD).to_bits();
     let usual = (20.0 + random.below(200_000_000) as f32 / 1024.0).to_bits();
     random.weighted(&[(8, usual), (5, odd), (1, subnormal), (1, subnormal | 1 << 31), (1, any)])

@@ -1,8 +1,9 @@
 //! Pitch: chosen notes, c5 speeds, sample offsets, Amiga limits, fine slides and finetunes, in rows of 32 channels.
 
-use super::Asked;
+use super::{ask, ask_open};
 use crate::calls::Call;
 use crate::generate::pitch::{self, Placed};
+use crate::list::Case;
 use crate::player::PERIOD_TABLE;
 use crate::player::bridge::open;
 use crate::player::cmd::*;
@@ -32,7 +33,7 @@ const FREQUENCIES: [u32; 20] = [
     0x7f7f_ffff, 0xff7f_ffff, 0x7f80_0000, 0xff80_0000,
 ];
 
-pub fn add(asked: &mut Asked) {
+pub fn add(asked: &mut Vec<Case>) {
     notes(asked);
     offsets(asked);
     slides(asked);
@@ -40,17 +41,17 @@ pub fn add(asked: &mut Asked) {
 }
 
 /// Cells with their samples, played from Open in sections of so many rows.
-fn play(asked: &mut Asked, placed: &[Placed], n: usize) {
+fn play(asked: &mut Vec<Case>, placed: &[Placed], n: usize) {
     let tune = pitch::tune(placed);
-    let mut state = asked.open(&tune);
+    let mut state = ask_open(asked, &tune);
     for _ in 0..placed.len().div_ceil(CHANNELS * n) {
-        [_, _, _, state, _] = asked.ask(Call::section(&tune, state, n as u32, 0)).slots;
+        [_, _, _, state, _] = ask(asked, Call::section(&tune, state, n as u32, 0)).slots;
     }
 }
 
 /// Every note byte at each c5 speed, the two that are no notes as the last note of a bare slide; the first note about
 /// some periods.
-fn notes(asked: &mut Asked) {
+fn notes(asked: &mut Vec<Case>) {
     let all = (0..=253).flat_map(|note| C5_SPEEDS.map(|c5| pitch::note(note, c5)));
     play(asked, &all.collect::<Vec<_>>(), 48);
     let about = PERIODS.iter().flat_map(|period| about(8363 * PERIOD_TABLE[0] / period));
@@ -64,11 +65,11 @@ fn notes(asked: &mut Asked) {
         channel.instrument = 1 + i as u8 % 6;
         channel.last_note = if i < 6 { 0xFE } else { 0xFF };
     }
-    asked.ask(Call::section(&tune, state.encode(), 1, 0));
+    ask(asked, Call::section(&tune, state.encode(), 1, 0));
 }
 
 /// Offsets in and out of loops, and about their ends; a state tells where its last row started notes.
-fn offsets(asked: &mut Asked) {
+fn offsets(asked: &mut Vec<Case>) {
     let mut placed = Vec::new();
     for looped in [false, true] {
         for bounds in LOOPS {
@@ -86,7 +87,7 @@ fn offsets(asked: &mut Asked) {
 }
 
 /// Each of the 64 fine slides on 32 frequencies; those of no step again within the Amiga limits.
-fn slides(asked: &mut Asked) {
+fn slides(asked: &mut Vec<Case>) {
     let tune = pitch::slides();
     let mut state = open(&tune);
     for (channel, bits) in state.channels.iter_mut().zip(frequencies()) {
@@ -96,7 +97,7 @@ fn slides(asked: &mut Asked) {
     for (limits, step) in [(false, 1), (true, 16)] {
         for row in (0..ROWS).step_by(step) {
             (state.amiga_limits, state.row) = (limits, row as u8);
-            asked.ask(Call::section(&tune, state.encode(), 1, 0));
+            ask(asked, Call::section(&tune, state.encode(), 1, 0));
         }
     }
 }
@@ -108,7 +109,7 @@ pub fn frequencies() -> impl Iterator<Item = u32> {
 }
 
 /// Each finetune on a usual last note and on others.
-fn finetunes(asked: &mut Asked) {
+fn finetunes(asked: &mut Vec<Case>) {
     let mut tune = pitch::slides();
     let cells = (0..CHANNELS as u8).flat_map(|i| [255, 0, 255, S_EXTENDED, 0x20 | (i % 16)]);
     tune.cells.iter_mut().zip(cells).for_each(|(byte, new)| *byte = new);
@@ -116,7 +117,7 @@ fn finetunes(asked: &mut Asked) {
     for (i, channel) in state.channels.iter_mut().enumerate() {
         channel.last_note = if i < 16 { 0x40 } else { [0, 1, 0x8B, 0xFE][i % 4] };
     }
-    asked.ask(Call::section(&tune, state.encode(), 1, 0));
+    ask(asked, Call::section(&tune, state.encode(), 1, 0));
 }
 
 /// A number and its neighbours.

@@ -1,8 +1,9 @@
 //! Sections: from Open and from odd states, all at once and in parts, and single rows from odd states.
 
-use super::Asked;
+use super::{ask, ask_open};
 use crate::calls::{Call, UNTOUCHED};
 use crate::generate::{self, Purpose};
+use crate::list::Case;
 use crate::player::cmd::S_EXTENDED;
 use crate::random::Random;
 use crate::state::{S_SLOT, State};
@@ -25,7 +26,7 @@ const PLANNED_INFOS: [u8; 40] = [
 ];
 const SPARE: [usize; 4] = [0, 1, 7, 535];
 
-pub fn add(asked: &mut Asked) {
+pub fn add(asked: &mut Vec<Case>) {
     WALK_SEEDS.for_each(|seed| walked(asked, seed));
     PARTED_SEEDS.for_each(|seed| parted(asked, seed));
     for seed in VISIT_SEEDS {
@@ -40,31 +41,31 @@ pub fn add(asked: &mut Asked) {
 }
 
 /// A tune from Open on, in one section.
-fn walked(asked: &mut Asked, seed: u64) {
+fn walked(asked: &mut Vec<Case>, seed: u64) {
     let tune = generate::tune(&mut Random::new(seed), Purpose::Walks, seed);
-    let (state, spare) = (asked.open(&tune), SPARE[seed as usize % SPARE.len()]);
-    asked.ask(Call::section(&tune, state, WALK_ROWS, spare));
+    let (state, spare) = (ask_open(asked, &tune), SPARE[seed as usize % SPARE.len()]);
+    ask(asked, Call::section(&tune, state, WALK_ROWS, spare));
 }
 
 /// A section from Open and one from an odd state, each all at once, 7 rows at a time and 1 at a time; one of no rows,
 /// and one from an ended state.
-fn parted(asked: &mut Asked, seed: u64) {
+fn parted(asked: &mut Vec<Case>, seed: u64) {
     let random = &mut Random::new(seed);
     let tune = generate::any_tune(random, seed);
     let [mut odd, mut ended] = [0, 1].map(|_| generate::any_state(random, &tune));
     odd.start >>= 1;
     ended.ended = true;
-    let starts = [asked.open(&tune), generate::unclean(random, &odd)];
+    let starts = [ask_open(asked, &tune), generate::unclean(random, &odd)];
     for (start, n) in starts.iter().zip([41, 40]) {
         in_parts(asked, &tune, start, n);
     }
-    asked.ask(Call::section(&tune, generate::unclean(random, &odd), 0, 0));
-    asked.ask(Call::section(&tune, generate::unclean(random, &ended), 3, 1));
+    ask(asked, Call::section(&tune, generate::unclean(random, &odd), 0, 0));
+    ask(asked, Call::section(&tune, generate::unclean(random, &ended), 3, 1));
 }
 
 /// Asks for the same rows three times. The parts' outputs hold all records behind the bytes that are to be written.
-fn in_parts(asked: &mut Asked, tune: &Tune, start: &[u8], n: u32) {
-    let whole = asked.ask(Call::section(tune, start.to_vec(), n, 0));
+fn in_parts(asked: &mut Vec<Case>, tune: &Tune, start: &[u8], n: u32) {
+    let whole = ask(asked, Call::section(tune, start.to_vec(), n, 0));
     let behind: Vec<&[u8]> = whole.records().collect();
     let (rows, behind) = (behind.len() as u32, behind.concat());
     for part in [7, 1] {
@@ -74,13 +75,13 @@ fn in_parts(asked: &mut Asked, tune: &Tune, start: &[u8], n: u32) {
             let mut call = Call::section(tune, state, part, 0);
             call.slots[4] = vec![UNTOUCHED; behind.len().max(RECORD_BYTES * part as usize)];
             call.slots[4].extend(&behind);
-            [_, _, _, state, _] = asked.ask(call).slots;
+            [_, _, _, state, _] = ask(asked, call).slots;
         }
     }
 }
 
 /// Sections of one row to three, each from an odd state.
-fn visits(asked: &mut Asked, random: &mut Random, tune: &Tune, count: usize) {
+fn visits(asked: &mut Vec<Case>, random: &mut Random, tune: &Tune, count: usize) {
     let mut last = generate::odd_state(random, tune);
     for _ in 0..count {
         let state = odd_from(random, tune, &last);
@@ -104,19 +105,17 @@ fn odd_from(random: &mut Random, tune: &Tune, other: &State) -> State {
 }
 
 /// A section from a state, whose bytes may say it in another way; the state behind it.
-fn visit(asked: &mut Asked, random: &mut Random, tune: &Tune, state: &State, n: u32) -> State {
-    let odd = random.chance(30);
-    let bytes = if odd {
-        generate::unclean(random, state)
-    } else {
-        state.encode()
+fn visit(asked: &mut Vec<Case>, random: &mut Random, tune: &Tune, state: &State, n: u32) -> State {
+    let bytes = match random.chance(30) {
+        true => generate::unclean(random, state),
+        false => state.encode(),
     };
     let spare = random.one(&SPARE[..3]);
-    State::decode(&asked.ask(Call::section(tune, bytes, n, spare)).slots[3])
+    State::decode(&ask(asked, Call::section(tune, bytes, n, spare)).slots[3])
 }
 
 /// The rows of a planned tune, each from an odd state that is not held.
-fn planned(asked: &mut Asked, seed: u64) {
+fn planned(asked: &mut Vec<Case>, seed: u64) {
     let random = &mut Random::new(seed);
     let tune = planned_tune(random, seed, &PLANNED_INFOS);
     let mut last = generate::odd_state(random, &tune);

@@ -81,10 +81,9 @@ pub fn by_rules(random: &mut Random) -> (Draft, Option<bool>) {
     let rules: Vec<u8> = (0..count).map(|_| random.between(1, 8)).collect();
     let has = |rule| rules.contains(&rule);
     let lists = counts(random, has(3));
-    let mut draft = if has(4) {
-        lists_cut(random, lists)
-    } else {
-        whole_lists(random, lists, has(3))
+    let mut draft = match has(4) {
+        true => lists_cut(random, lists),
+        false => whole_lists(random, lists, has(3)),
     };
     for rule in rules.iter().filter(|&&rule| rule >= 7) {
         point_past(random, &mut draft, *rule == 7);
@@ -131,9 +130,8 @@ fn whole_lists(random: &mut Random, lists: Lists, broken: bool) -> Draft {
 fn lists_cut(random: &mut Random, lists: Lists) -> Draft {
     let mut draft = Draft::new(random, lists);
     let (whole, any) = (lists.end(), HEADER_BYTES + random.index(lists.end() - HEADER_BYTES + 1));
-    draft
-        .bytes
-        .truncate(random.one(&[whole - 1, whole - 1, lists.pans() - 1, whole, any]));
+    let length = random.one(&[whole - 1, whole - 1, lists.pans() - 1, whole, any]);
+    draft.bytes.truncate(length);
     draft
 }
 
@@ -148,10 +146,8 @@ fn point_past(random: &mut Random, draft: &mut Draft, instrument: bool) {
     let there = list + 2 * random.one(&[0, count - 1, any]);
     if there + 2 <= draft.bytes.len() {
         let own = le16(&draft.bytes, there) % 0x1000;
-        draft.set16(
-            there,
-            random.one(&[near, near + 1, 0x1001, 0xFFFF, 0x1000 + own, 0xF000 + own]),
-        );
+        let past = random.one(&[near, near + 1, 0x1001, 0xFFFF, 0x1000 + own, 0xF000 + own]);
+        draft.set16(there, past);
     }
 }
 
