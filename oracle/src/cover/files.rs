@@ -30,23 +30,8 @@ impl File<'_> {
 
 pub fn needs(tally: &mut Tally) {
     tally.prefix = "file: ";
-    need_edges(tally);
-    need_sights(tally);
-    tally.prefix = "";
-}
-
-/// The rules 1 to 8 and their edges.
-fn need_edges(tally: &mut Tally) {
     tally.family("Measure {}", 0..=5);
     tally.family("Read {}", 0..=8);
-    tally.family("byte {} of SCRM alone wrong", 44..48);
-    tally.family("{} bytes", [0, 1, 95, 96]);
-    tally.family("{} orders", [0, 255, 256, 65_535]);
-    tally.family("{} instruments", [99, 100, 65_535]);
-    tally.family("{} patterns", [100, 101, 65_535]);
-    tally.family("rate {}", [0, 1, 100_000, 100_001, u32::MAX]);
-    tally.family("rule {} alone", 1..=8);
-    tally.family("rule 1 wins over {}", 2..=6);
     for rule in 2..8 {
         tally.family(&format!("rules {rule} and {{}} alone"), rule + 1..=8);
     }
@@ -54,33 +39,21 @@ fn need_edges(tally: &mut Tally) {
         let there = 1..=reader::follow(flags);
         tally.family(&format!("entry of flags {flags:#04x} cut behind {{}}"), there);
     }
-    tally.family("instrument of type {} one byte past", KINDS);
     for table in ["orders", "samples", "cells"] {
         tally.family(&format!("lent {table} one {{}}"), ["short", "long"]);
     }
-}
-
-fn need_sights(tally: &mut Tally) {
-    tally.family("good: {} patterns", 0..=6);
-    tally.family("good: {} orders", [1, 255]);
-    tally.family("good: {} instruments", [0, 99]);
     for pan in ["its own pan", "bit 5 clear", "a given pan"] {
         tally.family(&format!("setting {{}} with {pan}"), 0..=255);
     }
-    tally.family("pan byte {}", 0..=255);
-    tally.family("flag bit {} alone", 0..16);
-    tally.family("no fast slides, version {}", ["0x1301", "0x12ff", "0x13"]);
-    tally.family("instrument type {}", KINDS);
-    tally.family("entry {}", (1..=255).map(|what| format!("{what:#04x}")));
     for first in 0..8 {
         tally.family(&format!("channel twice, flags {first} then {{}}"), 0..8);
     }
-    tally.family("field {} of an entry 0", 0..5);
     for part in ["instrument", "pattern"] {
         let places = [" pointer 0", " in the header", " in the lists", " from byte 4,096 up"];
         tally.family(&format!("{part}{{}}"), places);
         tally.family(&format!("{part}s {{}}"), ["shared", "overlapping"]);
     }
+    tally.prefix = "";
 }
 
 /// The answer is that of the first broken rule.
@@ -96,10 +69,10 @@ pub fn see(tally: &mut Tally, case: &Case) -> Result<(), String> {
     if call.function == Function::Measure {
         return Ok(());
     }
-    tally.note(format!("{} bytes", bytes.len()));
+    tally.among("{} bytes", [0, 1, 95, 96], bytes.len());
     see_rules(tally, &broken);
     if broken.is_empty() {
-        tally.note(format!("rate {}", call.number));
+        tally.among("rate {}", [0, 1, 100_000, 100_001, u32::MAX], call.number);
     }
     if let Some(lists) = Lists::of(bytes).filter(|_| bytes.len() >= 96) {
         let file = File {
@@ -117,10 +90,10 @@ pub fn see(tally: &mut Tally, case: &Case) -> Result<(), String> {
 
 fn see_rules(tally: &mut Tally, broken: &[u8]) {
     match *broken {
-        [rule] => tally.note(format!("rule {rule} alone")),
+        [rule] => tally.among("rule {} alone", 1..=8, rule),
         [1, ref others @ ..] => {
             for other in others {
-                tally.note(format!("rule 1 wins over {other}"));
+                tally.among("rule 1 wins over {}", 2..=6, other);
             }
         }
         [rule, other] => tally.note(format!("rules {rule} and {other} alone")),
@@ -131,10 +104,12 @@ fn see_rules(tally: &mut Tally, broken: &[u8]) {
 fn see_file(tally: &mut Tally, file: &File) {
     let wrong: Vec<usize> = (44..48).filter(|&at| file.bytes[at] != b"SCRM"[at - 44]).collect();
     if let [at] = wrong[..] {
-        tally.note(format!("byte {at} of SCRM alone wrong"));
+        tally.among("byte {} of SCRM alone wrong", 44..48, at);
     }
     if file.broken.first().is_none_or(|&first| first > 2) {
-        see_counts(tally, "", &file.lists);
+        tally.among("{} orders", [0, 255, 256, 65_535], file.lists.orders);
+        tally.among("{} instruments", [99, 100, 65_535], file.lists.instruments);
+        tally.among("{} patterns", [100, 101, 65_535], file.lists.patterns);
     }
     see_head(tally, file);
     if file.broken == [6] {
@@ -147,12 +122,6 @@ fn see_file(tally: &mut Tally, file: &File) {
     if file.is_good() {
         see_good(tally, file);
     }
-}
-
-fn see_counts(tally: &mut Tally, good: &str, lists: &Lists) {
-    tally.note(format!("{good}{} orders", lists.orders));
-    tally.note(format!("{good}{} instruments", lists.instruments));
-    tally.note(format!("{good}{} patterns", lists.patterns));
 }
 
 /// Where the lists end, and the levels.
@@ -194,7 +163,7 @@ fn see_instrument_ends(tally: &mut Tally, file: &File) {
         let held = at > 0xFFFF && wrapped != 0 && !reader::is_cut_instrument(file.bytes, wrapped);
         let ends = end == length && file.is_good();
         if end == length + 1 {
-            tally.note(format!("instrument of type {} one byte past", file.bytes[at]));
+            tally.among("instrument of type {} one byte past", KINDS, file.bytes[at]);
         }
         tally.anywhere([
             (ends, "instrument ends with the file, good"),
@@ -242,7 +211,9 @@ fn see_pattern_end(tally: &mut Tally, file: &File, at: usize) {
 /// What a good file has.
 fn see_good(tally: &mut Tally, file: &File) {
     let orders = &file.bytes[96..96 + file.lists.orders];
-    see_counts(tally, "good: ", &file.lists);
+    tally.among("good: {} orders", [1, 255], file.lists.orders);
+    tally.among("good: {} instruments", [0, 99], file.lists.instruments);
+    tally.among("good: {} patterns", 0..=6, file.lists.patterns);
     tally.anywhere([
         (orders.contains(&0xFE), "good: 0xFE among the orders"),
         (orders.contains(&0xFF), "good: 0xFF among the orders"),
@@ -316,7 +287,7 @@ fn see_channels(tally: &mut Tally, file: &[u8], lists: &Lists) {
         let (pan, place) = (file[lists.pans() + i], setting & 0x7F);
         let given = pan & 0x20 != 0;
         let whose = if given { "a given pan" } else { "bit 5 clear" };
-        tally.note(format!("pan byte {pan}"));
+        tally.among("pan byte {}", 0..=255, pan);
         tally.note(format!("setting {setting} with {whose}"));
         tally.anywhere([
             (given && place < 8, "pan given, setting left"),
@@ -331,10 +302,14 @@ fn see_switches(tally: &mut Tally, file: &[u8]) {
     let (flags, version) = (le16(file, 38), le16(file, 40));
     let (by_flag, by_version) = (flags & 64 != 0, version == 0x1300);
     if flags.is_power_of_two() {
-        tally.note(format!("flag bit {} alone", flags.trailing_zeros()));
+        tally.among("flag bit {} alone", 0..16, flags.trailing_zeros());
     }
     if !by_flag && !by_version {
-        tally.note(format!("no fast slides, version {version:#x}"));
+        tally.among(
+            "no fast slides, version {}",
+            ["0x1301", "0x12ff", "0x13"],
+            format!("{version:#x}"),
+        );
     }
     let [volume, speed, tempo] = [48, 49, 50].map(|at| file[at]);
     tally.anywhere([
@@ -354,7 +329,7 @@ fn see_switches(tally: &mut Tally, file: &[u8]) {
 fn see_instrument(tally: &mut Tally, part: &[u8]) {
     let (kind, flags) = (part[0], part[31]);
     let (pcm, adlib, other_bits) = (kind == 1, (2..=7).contains(&kind), flags != 0 && flags & 1 == 0);
-    tally.note(format!("instrument type {kind}"));
+    tally.among("instrument type {}", KINDS, kind);
     tally.anywhere([
         (pcm && flags == 0, "PCM, byte 31 of 0"),
         (pcm && flags == 1, "PCM, byte 31 with bit 0 alone"),
@@ -385,13 +360,17 @@ fn see_pattern(tally: &mut Tally, file: &[u8], at: usize) {
         see_row(tally, &of_row);
     }
     for entry in &entries {
-        tally.note(format!("entry {:#04x}", entry.what));
+        tally.among("entry {}", (1..=255).map(hexadecimal), hexadecimal(entry.what));
         for (field, byte) in reader::fields(entry.what).zip(entry.data) {
             if *byte == 0 {
-                tally.note(format!("field {field} of an entry 0"));
+                tally.among("field {} of an entry 0", 0..5, field);
             }
         }
     }
+}
+
+fn hexadecimal(byte: u8) -> String {
+    format!("{byte:#04x}")
 }
 
 fn see_row(tally: &mut Tally, entries: &[&Entry]) {

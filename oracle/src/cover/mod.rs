@@ -52,6 +52,8 @@ struct Tally {
     walking: bool,
     /// The infos met with each command, from states.
     infos: BTreeMap<u8, BTreeSet<u8>>,
+    /// The forms whose things are asked for as they are looked at.
+    forms: BTreeSet<&'static str>,
     /// Before the name of a thing that a file has.
     prefix: &'static str,
     /// How many of the things that are asked for were seen.
@@ -81,6 +83,14 @@ impl Tally {
 
     fn family<T: ToString>(&mut self, form: &str, each: impl IntoIterator<Item = T>) {
         self.need(Needed::Anywhere, form, each);
+    }
+
+    /// Asks for each of these the first time, and counts the one that was seen.
+    fn among<T: ToString>(&mut self, form: &'static str, each: impl IntoIterator<Item = T>, seen: impl ToString) {
+        if self.forms.insert(form) {
+            self.family(form, each);
+        }
+        self.note(form.replace("{}", &seen.to_string()));
     }
 
     /// Asks for all of these, and counts those that hold.

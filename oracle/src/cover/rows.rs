@@ -26,19 +26,13 @@ pub fn needs(tally: &mut Tally) {
     tally.need(Needed::FromStates, "command {} with 20 infos and 0", commands);
     let slides = ["FF", "F0", "0F", "Fy", "xF", "x0", "0y", "xy"];
     tally.need(Needed::FromStates, "D{}", slides);
-    tally.family("factor {}", 0..64);
-    tally.family("note number {}", 0..108);
     for c5 in C5_SPEEDS {
         tally.family(&format!("note byte {{}} at c5 speed {c5}"), 0..=255);
     }
-    tally.family("last c5 speed of period {}", PERIODS);
-    tally.family("past the last c5 speed of period {}", PERIODS);
-    tally.family("offset {}", [0, 65_280]);
     for frequency in frequencies() {
         tally.family(&format!("frequency {frequency:#x} by factor {{}}"), 0..64);
         tally.family(&format!("frequency {frequency:#x} with limits {{}}"), ["on", "off"]);
     }
-    tally.family("finetune {}", 0..16);
 }
 
 /// A cell of a row being entered, with its channel before and after.
@@ -156,7 +150,7 @@ fn see_command(tally: &mut Tally, cell: &Seen) {
         _ => {}
     }
     if command == S_EXTENDED && sub == 2 && cell.after.last_note != 0 {
-        tally.note(format!("finetune {}", cell.info() & 15));
+        tally.among("finetune {}", 0..16, cell.info() & 15);
     }
 }
 
@@ -208,10 +202,10 @@ fn see_period(tally: &mut Tally, note: u8, c5: u32) {
     }
     let [before, own, behind] = [c5 - 1, c5, c5.saturating_add(1)].map(|c5| 8363 * PERIOD_TABLE[0] / c5);
     if before != own {
-        tally.note(format!("past the last c5 speed of period {before}"));
+        tally.among("past the last c5 speed of period {}", PERIODS, before);
     }
     if own != behind {
-        tally.note(format!("last c5 speed of period {own}"));
+        tally.among("last c5 speed of period {}", PERIODS, own);
     }
 }
 
@@ -220,7 +214,7 @@ fn see_strike(tally: &mut Tally, cell: &Seen, sample: &SampleBody) {
     let (by_offset, offset) = (cell.cell.command == O_SAMPLE_OFFSET, u32::from(cell.info()) * 256);
     let plain = cell.after.sample_pos == f64::from(offset);
     let cleared = cell.before.opl_voice.is_some() && cell.after.opl_voice.is_none();
-    tally.note(format!("note number {}", number.min(107)));
+    tally.among("note number {}", 0..108, number.min(107));
     tally.both([
         (true, "note struck"),
         (by_offset && plain, "note struck by O, plain offset"),
@@ -242,7 +236,7 @@ fn see_offset(tally: &mut Tally, offset: u32, sample: &SampleBody) {
     let (usable, folded, lost) = (on && whole, on && whole && past, on && !whole && past);
     let (empty, turned, too_long) = (lost && end == start, lost && end < start, lost && end > start);
     let one_frame = folded && end - start == 1;
-    tally.note(format!("offset {offset}"));
+    tally.among("offset {}", [0, 65_280], offset);
     tally.anywhere([
         (usable && end == offset + 1, "offset one below the loop's end"),
         (usable && end == offset, "offset at the loop's end"),
@@ -282,7 +276,7 @@ fn see_sound(tally: &mut Tally, amiga_limits: bool, cell: &Seen) {
 fn see_slide(tally: &mut Tally, amiga_limits: bool, cell: &Seen) {
     let Some(factor) = cell.factor() else { return };
     if cell.after.frequency.is_normal() {
-        tally.note(format!("factor {factor}"));
+        tally.among("factor {}", 0..64, factor);
     }
     if cell.cell.note != 255 {
         return;
