@@ -132,7 +132,7 @@ impl Original {
         layout.flags([&mut player.replaying_for_pattern_delay, &mut player.ended]);
         layout.bytes([&mut player.speed, &mut player.bpm, &mut player.global_volume]);
         layout.flags([&mut player.amiga_limits, &mut player.fast_slides]);
-        layout.spare::<1>();
+        layout.next([0; 1]);
         lay_rest(layout, &mut self.rate, &mut self.start, &mut player.channels, &mut self.kept);
     }
 }

@@ -34,10 +34,6 @@ impl Layout<'_> {
         *next
     }
 
-    pub fn spare<const N: usize>(&mut self) {
-        self.next([0; N]);
-    }
-
     pub fn bytes<'b>(&mut self, fields: impl IntoIterator<Item = &'b mut u8>) {
         for field in fields {
             [*field] = self.next([*field]);

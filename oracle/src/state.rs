@@ -62,7 +62,7 @@ impl State {
         layout.flags([&mut self.replaying_for_pattern_delay, &mut self.ended]);
         layout.bytes([&mut self.speed, &mut self.bpm, &mut self.global_volume]);
         layout.flags([&mut self.amiga_limits, &mut self.fast_slides]);
-        layout.spare::<1>();
+        layout.next([0; 1]);
         lay_rest(
             layout,
             &mut self.rate,
@@ -76,7 +76,7 @@ impl State {
 /// What follows the player's own fields: the card, the S infos and the channels.
 pub fn lay_rest(layout: &mut Layout, rate: &mut u32, start: &mut u64, channels: &mut [Channel], kept: &mut Kept) {
     layout.number(rate);
-    layout.spare::<4>();
+    layout.next([0; 4]);
     layout.long(start);
     layout.bytes(channels.iter_mut().map(|ch| &mut ch.effect_memory[S_SLOT]));
     for (ch, kept) in channels.iter_mut().zip(kept) {
@@ -111,7 +111,7 @@ fn lay_channel(layout: &mut Layout, ch: &mut Channel, kept: &mut [u8; 6]) {
         ch.opl_voice = voice(mark);
     }
     layout.bytes([&mut ch.voice_global_vol]);
-    layout.spare::<3>();
+    layout.next([0; 3]);
     let [of_s, behind @ ..] = kept;
     layout.bytes(&mut ch.effect_memory[..S_SLOT]);
     layout.bytes([of_s]);

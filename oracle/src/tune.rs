@@ -103,9 +103,9 @@ impl Opening {
     fn lay(&mut self, layout: &mut Layout) {
         layout.bytes([&mut self.speed, &mut self.tempo, &mut self.global_volume]);
         layout.flags([&mut self.amiga_limits, &mut self.fast_slides]);
-        layout.spare::<3>();
+        layout.next([0; 3]);
         layout.number(&mut self.rate);
-        layout.spare::<4>();
+        layout.next([0; 4]);
         for ch in &mut self.channels {
             layout.bytes([&mut ch.pan]);
             layout.flags([&mut ch.muted, &mut ch.right_bank, &mut ch.adlib]);

@@ -39,20 +39,16 @@ pub fn needs(tally: &mut Tally) {
         let there = 1..=reader::follow(flags);
         tally.family(&format!("entry of flags {flags:#04x} cut behind {{}}"), there);
     }
-    for table in ["orders", "samples", "cells"] {
-        tally.family(&format!("lent {table} one {{}}"), ["short", "long"]);
-    }
-    for pan in ["its own pan", "bit 5 clear", "a given pan"] {
-        tally.family(&format!("setting {{}} with {pan}"), 0..=255);
-    }
-    for first in 0..8 {
-        tally.family(&format!("channel twice, flags {first} then {{}}"), 0..8);
-    }
-    for part in ["instrument", "pattern"] {
-        let places = [" pointer 0", " in the header", " in the lists", " from byte 4,096 up"];
-        tally.family(&format!("{part}{{}}"), places);
-        tally.family(&format!("{part}s {{}}"), ["shared", "overlapping"]);
-    }
+    tally.pairs("lent {} one {}", ["orders", "samples", "cells"], &["short", "long"]);
+    tally.pairs(
+        "setting {} with {}",
+        0..=255,
+        &["its own pan", "bit 5 clear", "a given pan"],
+    );
+    tally.pairs("channel twice, flags {} then {}", 0..8, &[0, 1, 2, 3, 4, 5, 6, 7]);
+    let places = ["pointer 0", "in the header", "in the lists", "from byte 4,096 up"];
+    tally.pairs("{} {}", ["instrument", "pattern"], &places);
+    tally.pairs("{} {}", ["instruments", "patterns"], &["shared", "overlapping"]);
     tally.prefix = "";
 }
 

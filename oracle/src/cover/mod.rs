@@ -85,6 +85,13 @@ impl Tally {
         self.need(Needed::Anywhere, form, each);
     }
 
+    /// The same for each of these with each of those, the first of two `{}` being the former.
+    fn pairs<S: ToString, T: ToString + Clone>(&mut self, form: &str, these: impl IntoIterator<Item = S>, those: &[T]) {
+        for this in these {
+            self.family(&form.replacen("{}", &this.to_string(), 1), those.iter().cloned());
+        }
+    }
+
     /// Asks for each of these the first time, and counts the one that was seen.
     fn among<T: ToString>(&mut self, form: &'static str, each: impl IntoIterator<Item = T>, seen: impl ToString) {
         if self.forms.insert(form) {

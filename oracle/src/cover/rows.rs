@@ -26,13 +26,11 @@ pub fn needs(tally: &mut Tally) {
     tally.need(Needed::FromStates, "command {} with 20 infos and 0", commands);
     let slides = ["FF", "F0", "0F", "Fy", "xF", "x0", "0y", "xy"];
     tally.need(Needed::FromStates, "D{}", slides);
-    for c5 in C5_SPEEDS {
-        tally.family(&format!("note byte {{}} at c5 speed {c5}"), 0..=255);
-    }
-    for frequency in frequencies() {
-        tally.family(&format!("frequency {frequency:#x} by factor {{}}"), 0..64);
-        tally.family(&format!("frequency {frequency:#x} with limits {{}}"), ["on", "off"]);
-    }
+    tally.pairs("note byte {} at c5 speed {}", 0..=255, &C5_SPEEDS);
+    let factors: Vec<usize> = (0..64).collect();
+    let frequencies = || frequencies().map(|bits| format!("{bits:#x}"));
+    tally.pairs("frequency {} by factor {}", frequencies(), &factors);
+    tally.pairs("frequency {} with limits {}", frequencies(), &["on", "off"]);
 }
 
 /// A cell of a row being entered, with its channel before and after.
@@ -83,17 +81,14 @@ pub fn see(tally: &mut Tally, tune: &Tune, seen: &[Seen], [before, entered]: [&S
         see_note(tally, tune, cell);
         see_sound(tally, entered.amiga_limits, cell);
         see_slide(tally, entered.amiga_limits, cell);
-        if !tally.walking {
-            see_info(tally, cell.cell.command, cell.cell.info);
+        if tally.walking {
+            continue;
         }
-    }
-}
-
-fn see_info(tally: &mut Tally, command: u8, info: u8) {
-    let met = tally.infos.entry(command).or_default();
-    met.insert(info);
-    if met.len() >= INFOS && met.contains(&0) {
-        tally.note(format!("command {command} with {INFOS} infos and 0"));
+        let (command, met) = (cell.cell.command, tally.infos.entry(cell.cell.command).or_default());
+        met.insert(cell.cell.info);
+        if met.len() >= INFOS && met.contains(&0) {
+            tally.note(format!("command {command} with {INFOS} infos and 0"));
+        }
     }
 }
 
@@ -142,8 +137,12 @@ fn see_command(tally: &mut Tally, cell: &Seen) {
     }
     match command {
         D_VOL_SLIDE => {
-            let [x, y] = [(sub, 'x'), (cell.info() & 15, 'y')].map(digit);
-            tally.note(format!("D{x}{y}"));
+            let digits = [(sub, "x"), (cell.info() & 15, "y")].map(|(nibble, between)| match nibble {
+                0 => "0",
+                15 => "F",
+                _ => between,
+            });
+            tally.note(format!("D{}", digits.concat()));
         }
         S_EXTENDED if zero => tally.note(format!("S00 recalls S{sub:X}x")),
         S_EXTENDED => tally.note(format!("S{sub:X}x fresh")),
@@ -151,15 +150,6 @@ fn see_command(tally: &mut Tally, cell: &Seen) {
     }
     if command == S_EXTENDED && sub == 2 && cell.after.last_note != 0 {
         tally.among("finetune {}", 0..16, cell.info() & 15);
-    }
-}
-
-/// A nibble of a volume slide: 0, F, or between them.
-fn digit((nibble, between): (u8, char)) -> char {
-    match nibble {
-        0 => '0',
-        15 => 'F',
-        _ => between,
     }
 }
 
