@@ -24,6 +24,8 @@ pub mod oxideav_core;
 pub mod samples;
 
 #[cfg(test)]
+mod path;
+#[cfg(test)]
 mod tests;
 
 // The original's modules header, opl2, pattern and player, patched by build.rs.

@@ -1,0 +1,139 @@
+//! 01's path machine, written from the document alone and held against the original.
+
+use crate::generate::{self, Purpose};
+use crate::player::bridge::{open, walk};
+use crate::random::Random;
+use crate::state::{HEAD_BYTES, S_SLOT, State};
+use crate::tune::Tune;
+
+/// What a row asks for; in each the last channel wins.
+#[derive(Default)]
+struct Asked {
+    speed: Option<u8>,
+    tempo: Option<u8>,
+    order: Option<u8>,
+    row: Option<u8>,
+    loops: Option<u8>,
+    hold: Option<u8>,
+}
+
+/// An order, the next where none is named, and a row.
+type Jump = (Option<u8>, u8);
+
+/// Enters a row: the jump that waits for leaving it.
+fn enter(path: &mut State, tune: &Tune) -> Option<Jump> {
+    while tune.orders.get(usize::from(path.order_index)) == Some(&0xFE) {
+        path.order_index += 1;
+    }
+    let Some(pattern) = tune.pattern_at(path.order_index.into()) else {
+        path.ended = true;
+        return None;
+    };
+    if path.loop_pattern_order != Some(path.order_index) {
+        path.loop_pattern_order = Some(path.order_index);
+        (path.loop_start_row, path.loop_count) = (0, None);
+    }
+    if path.replaying_for_pattern_delay {
+        return None;
+    }
+    let asked = ask(path, tune, pattern);
+    follow(path, &asked)
+}
+
+fn ask(path: &mut State, tune: &Tune, pattern: usize) -> Asked {
+    let mut asked = Asked::default();
+    for (channel, cell) in tune.row(pattern, path.row.into()).enumerate() {
+        let (command, info) = (cell[3], cell[4]);
+        let last = &mut path.channels[channel].effect_memory[S_SLOT];
+        if command == 19 && info != 0 {
+            *last = info;
+        }
+        match command {
+            1 if info != 0 => asked.speed = Some(info),
+            20 if info >= 32 => asked.tempo = Some(info),
+            2 => asked.order = Some(info),
+            3 => {
+                asked.row = Some((info >> 4) * 10 + (info & 15))
+                    .filter(|&row| row < 64)
+                    .or(asked.row)
+            }
+            19 if *last >> 4 == 0xB => asked.loops = Some(*last & 15),
+            19 if *last >> 4 == 0xE => asked.hold = Some(*last & 15),
+            _ => {}
+        }
+    }
+    asked
+}
+
+fn follow(path: &mut State, asked: &Asked) -> Option<Jump> {
+    let jumps = asked.order.is_some() || asked.row.is_some();
+    let mut jump = jumps.then(|| (asked.order, asked.row.unwrap_or(0)));
+    match asked.loops {
+        None => {}
+        Some(0) => path.loop_start_row = path.row,
+        Some(p) => {
+            let m = path.loop_count.map_or(p, |count| count.saturating_sub(1));
+            path.loop_count = (m > 0).then_some(m);
+            jump = path
+                .loop_count
+                .map(|_| (Some(path.order_index), path.loop_start_row))
+                .or(jump);
+        }
+    }
+    path.speed = asked.speed.unwrap_or(path.speed);
+    path.bpm = asked.tempo.unwrap_or(path.bpm);
+    path.pattern_delay_remaining = asked.hold.unwrap_or(path.pattern_delay_remaining);
+    jump
+}
+
+fn leave(path: &mut State, tune: &Tune, jump: Option<Jump>) {
+    path.start += u64::from(path.speed) * 5 * u64::from(path.rate) / (2 * u64::from(path.bpm));
+    path.replaying_for_pattern_delay = path.pattern_delay_remaining > 0 && jump.is_none();
+    if path.replaying_for_pattern_delay {
+        path.pattern_delay_remaining -= 1;
+        return;
+    }
+    path.pattern_delay_remaining = 0;
+    let next = path.order_index.saturating_add(1);
+    (path.order_index, path.row) = match jump {
+        Some((order, row)) => (order.unwrap_or(next), row),
+        None if path.row == 63 => (next, 0),
+        None => (path.order_index, path.row + 1),
+    };
+    path.ended = usize::from(path.order_index) >= tune.orders.len();
+}
+
+/// The path's part of a state: its head without the global volume and the switches.
+fn path_of(state: &State) -> Vec<u8> {
+    let mut head = state.encode();
+    head.truncate(HEAD_BYTES);
+    head[12..15].fill(0);
+    head
+}
+
+fn hold_against_the_original(tune: &Tune, from: State, rows: usize, seed: u64) {
+    let mut path = from.clone();
+    let last = walk(tune, from, rows, |before, entered, _| {
+        assert_eq!(path_of(&path), path_of(before), "seed {seed}");
+        let jump = enter(&mut path, tune);
+        assert_eq!(path_of(&path), path_of(entered), "seed {seed}, from {before:?}");
+        leave(&mut path, tune, jump);
+    });
+    if last.ended && !path.ended {
+        enter(&mut path, tune);
+    }
+    assert_eq!(path_of(&path), path_of(&last), "seed {seed}");
+}
+
+#[test]
+fn the_originals_path_is_01s() {
+    for seed in 0..400 {
+        let random = &mut Random::new(seed);
+        let tune = generate::tune(random, Purpose::Visits, seed);
+        for _ in 0..25 {
+            hold_against_the_original(&tune, generate::odd_state(random, &tune), 1, seed);
+        }
+        let tune = generate::tune(&mut Random::new(seed), Purpose::Walks, seed);
+        hold_against_the_original(&tune, open(&tune), 300, seed);
+    }
+}
