@@ -59,15 +59,14 @@ fn see_cells(found: &mut Differences, tune: &Tune, patterns: &[Pattern]) {
 
 fn see_samples(found: &mut Differences, tune: &Tune, instruments: &[Instrument]) {
     for (i, (ours, theirs)) in tune.samples.chunks_exact(SAMPLE_BYTES).zip(instruments).enumerate() {
-        let mut see =
-            |field: &str, ours: u32, theirs: u32| found.compare(format!("instrument {} {field}", i + 1), ours, theirs);
-        see("type", ours[0].into(), theirs.kind.into());
-        see("volume", ours[1].into(), theirs.volume.into());
-        see("looped", ours[2].into(), theirs.is_looped().into());
-        see("length", le32(ours, 4), theirs.length);
-        see("loop start", le32(ours, 8), theirs.loop_start);
-        see("loop end", le32(ours, 12), theirs.loop_end);
-        see("c5 speed", le32(ours, 16), theirs.c5_speed);
+        let name = |field: &str| format!("instrument {} {field}", i + 1);
+        found.compare(name("type"), ours[0], theirs.kind);
+        found.compare(name("volume"), ours[1], theirs.volume);
+        found.compare(name("looped"), ours[2] != 0, theirs.is_looped());
+        found.compare(name("length"), le32(ours, 4), theirs.length);
+        found.compare(name("loop start"), le32(ours, 8), theirs.loop_start);
+        found.compare(name("loop end"), le32(ours, 12), theirs.loop_end);
+        found.compare(name("c5 speed"), le32(ours, 16), theirs.c5_speed);
     }
 }
 
@@ -81,10 +80,10 @@ fn see_opening(found: &mut Differences, tune: &Tune, header: &S3mHeader) {
     found.compare("Amiga limits", ours.amiga_limits, player.amiga_limits);
     found.compare("fast slides", ours.fast_slides, player.fast_slides);
     for (i, (ours, theirs)) in ours.channels.iter().zip(&player.channels).enumerate() {
-        let mut see = |field: &str, ours: u8, theirs: u8| found.compare(format!("channel {i} {field}"), ours, theirs);
-        see("pan", ours.pan, theirs.pan);
-        see("muted", ours.muted.into(), theirs.muted.into());
-        see("right bank", ours.right_bank.into(), theirs.right_bank.into());
-        see("AdLib", ours.adlib.into(), theirs.adlib.into());
+        let name = |field: &str| format!("channel {i} {field}");
+        found.compare(name("pan"), ours.pan, theirs.pan);
+        found.compare(name("muted"), ours.muted, theirs.muted);
+        found.compare(name("right bank"), ours.right_bank, theirs.right_bank);
+        found.compare(name("AdLib"), ours.adlib, theirs.adlib);
     }
 }
