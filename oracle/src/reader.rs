@@ -58,19 +58,17 @@ impl Lists {
         self.pans() + if self.has_pans { CHANNELS } else { 0 }
     }
 
-    /// The places that the instrument pointers name, as far as the list is there.
-    pub fn instrument_places(&self, file: &[u8]) -> Vec<usize> {
-        places(file, self.instrument_list(), self.instruments)
+    /// The places that the instrument pointers and the pattern pointers name, as far as the lists are there.
+    pub fn places(&self, file: &[u8]) -> [Vec<usize>; 2] {
+        let lists = [
+            (self.instrument_list(), self.instruments),
+            (self.pattern_list(), self.patterns),
+        ];
+        lists.map(|(list, count)| {
+            let pointers = file.get(list..).unwrap_or_default().chunks_exact(2).take(count);
+            pointers.map(|two| 16 * usize::from(le16(two, 0))).collect()
+        })
     }
-
-    pub fn pattern_places(&self, file: &[u8]) -> Vec<usize> {
-        places(file, self.pattern_list(), self.patterns)
-    }
-}
-
-fn places(file: &[u8], list: usize, count: usize) -> Vec<usize> {
-    let pointers = file.get(list..).unwrap_or_default().chunks_exact(2).take(count);
-    pointers.map(|two| 16 * usize::from(le16(two, 0))).collect()
 }
 
 /// Refusals 1 to 5 in order, else the counts.
@@ -87,7 +85,7 @@ pub fn read_lent(file: &[u8], lent: &Lent, rate: u32) -> Result<Tune, u8> {
         return Err(rule);
     }
     let lists = Lists::of(file).expect("the file has a header");
-    let (instruments, patterns) = (lists.instrument_places(file), lists.pattern_places(file));
+    let [instruments, patterns] = lists.places(file);
     Ok(Tune {
         orders: file[HEADER_BYTES..][..lists.orders].to_vec(),
         samples: instruments.into_iter().flat_map(|at| instrument(file, at)).collect(),
@@ -109,9 +107,8 @@ pub fn broken(file: &[u8], lent: &Lent) -> Vec<u8> {
     let lists = Lists::of(file);
     let over = |count: Option<usize>, most: usize| count.is_some_and(|count| count > most);
     let other = |count: Option<usize>, size, lent| count.is_some_and(|count| count * size != lent);
-    let cut = |places: fn(&Lists, &[u8]) -> Vec<usize>, is_cut: fn(&[u8], usize) -> bool| {
-        lists.is_some_and(|lists| places(&lists, file).iter().any(|&at| is_cut(file, at)))
-    };
+    let places = lists.map(|lists| lists.places(file)).unwrap_or_default();
+    let cut = |places: &[usize], is_cut: fn(&[u8], usize) -> bool| places.iter().any(|&at| is_cut(file, at));
     let rules = [
         file.len() < HEADER_BYTES,
         file.get(44..48).is_some_and(|mark| mark != b"SCRM"),
@@ -121,8 +118,8 @@ pub fn broken(file: &[u8], lent: &Lent) -> Vec<u8> {
         other(orders, 1, lent[0])
             || other(instruments, SAMPLE_BYTES, lent[1])
             || other(patterns, PATTERN_BYTES, lent[2]),
-        cut(Lists::instrument_places, is_cut_instrument),
-        cut(Lists::pattern_places, is_cut_pattern),
+        cut(&places[0], is_cut_instrument),
+        cut(&places[1], is_cut_pattern),
     ];
     (1..).zip(rules).filter(|rule| rule.1).map(|rule| rule.0).collect()
 }

@@ -71,11 +71,12 @@ pub fn see(tally: &mut Tally, case: &Case) -> Result<(), String> {
         tally.among("rate {}", [0, 1, 100_000, 100_001, u32::MAX], call.number);
     }
     if let Some(lists) = Lists::of(bytes).filter(|_| bytes.len() >= 96) {
+        let [instruments, patterns] = lists.places(bytes);
         let file = File {
             bytes,
             lists,
-            instruments: lists.instrument_places(bytes),
-            patterns: lists.pattern_places(bytes),
+            instruments,
+            patterns,
             lent,
             broken,
         };
