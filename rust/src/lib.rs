@@ -17,19 +17,25 @@
 //! # Ok::<(), lomqashe::Refusal>(())
 //! ```
 
+#![deny(missing_docs)]
+
 mod bytes;
 mod ffi;
 mod opening;
 mod record;
 mod refusal;
+mod repeat;
 mod rows;
+mod sections;
 mod state;
 mod tune;
 
 pub use opening::{ChannelOpening, Opening};
 pub use record::{ChannelRecord, Record, Strikes, Voice};
 pub use refusal::Refusal;
+pub use repeat::Repeat;
 pub use rows::Rows;
+pub use sections::{CutSection, Sections};
 pub use state::State;
 pub use tune::{Counts, Section, Tune, measure};
 

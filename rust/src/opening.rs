@@ -7,17 +7,38 @@ use crate::bytes::u32_at;
 pub(crate) const OPENING_BYTES: usize = 144;
 
 /// What a channel opens with.
-#[derive(Clone, Copy, Debug, Default, PartialEq, Eq)]
+#[derive(Clone, Copy, Debug, PartialEq, Eq, Hash)]
 pub struct ChannelOpening {
     /// 0 (left) to 15 (right).
     pub pan: u8,
+    /// Whether the file turns the channel off; it is carried, and the rows do not depend on it.
     pub muted: bool,
+    /// Whether the channel is one of the right bank.
     pub right_bank: bool,
+    /// Whether the channel is an AdLib one.
     pub adlib: bool,
 }
 
+impl Default for ChannelOpening {
+    /// A sounding PCM channel of the left bank, panned to the middle.
+    fn default() -> ChannelOpening {
+        ChannelOpening {
+            pan: 8,
+            muted: false,
+            right_bank: false,
+            adlib: false,
+        }
+    }
+}
+
 /// What a tune opens with. Open refuses values that are out of range.
-#[derive(Clone, Debug, Default, PartialEq, Eq)]
+///
+/// ```
+/// use lomqashe::{Opening, Tune};
+/// let tune = Tune { orders: vec![0xFF], samples: vec![], cells: vec![], opening: Opening::default() };
+/// assert!(tune.open().is_ok());
+/// ```
+#[derive(Clone, Debug, PartialEq, Eq, Hash)]
 pub struct Opening {
     /// Ticks of a row, 1 to 255.
     pub speed: u8,
@@ -27,9 +48,27 @@ pub struct Opening {
     pub global_volume: u8,
     /// Micrometres of card a second, 1 to 100,000.
     pub rate: u32,
+    /// Whether frequencies stay within an Amiga's.
     pub amiga_limits: bool,
+    /// Whether volume slides act on the first tick too.
     pub fast_slides: bool,
+    /// From channel 0 on.
     pub channels: [ChannelOpening; CHANNELS],
+}
+
+impl Default for Opening {
+    /// Speed 6, tempo 125, global volume 64, a card of 60 mm a second, no switch on.
+    fn default() -> Opening {
+        Opening {
+            speed: 6,
+            tempo: 125,
+            global_volume: 64,
+            rate: 60_000,
+            amiga_limits: false,
+            fast_slides: false,
+            channels: [ChannelOpening::default(); CHANNELS],
+        }
+    }
 }
 
 impl Opening {

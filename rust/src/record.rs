@@ -1,22 +1,33 @@
 //! A row's record.
 
 use crate::bytes::{u32_at, u64_at};
-use crate::{CHANNELS, RECORD_BYTES, ffi};
+use crate::{CHANNELS, RECORD_BYTES, Refusal, ffi};
 use std::fmt;
 
 const HEAD_BYTES: usize = 24;
 const CHANNEL_BYTES: usize = 16;
 const LINE_BYTES: usize = 64;
 
-/// What happens in a row: the 536 bytes that a section writes for it.
-#[derive(Clone, PartialEq, Eq)]
+/// What happens in a row: the 536 bytes that a section writes for it. It is displayed as its line of the sheet.
+///
+/// ```
+/// let tune = lomqashe::Tune::read(include_bytes!("../../oracle/examples/worked.s3m"), 60_000)?;
+/// let record = tune.rows(50)?.next().expect("it has rows");
+/// assert_eq!(record.to_string(), "0,0,0,0,6,125,0,7200,1");
+/// assert_eq!(lomqashe::Record::try_from(record.as_ref())?, record);
+/// # Ok::<(), lomqashe::Refusal>(())
+/// ```
+#[derive(Clone, PartialEq, Eq, Hash)]
 pub struct Record([u8; RECORD_BYTES]);
 
 /// An AdLib channel's voice.
-#[derive(Clone, Copy, Debug, PartialEq, Eq)]
+#[derive(Clone, Copy, Debug, PartialEq, Eq, Hash)]
 pub enum Voice {
+    /// There is none.
     None,
+    /// The note is keyed.
     Keyed,
+    /// The key was let go.
     Released,
 }
 
@@ -29,22 +40,29 @@ pub struct ChannelRecord {
     pub target: f32,
     /// From 1; 0 is none.
     pub instrument: u8,
+    /// 0 to 64.
     pub volume: u8,
+    /// 0 (left) to 15 (right).
     pub pan: u8,
+    /// Whether a note sounds.
     pub active: bool,
     /// The note byte: octave in the high nibble, semitone in the low one.
     pub last_note: u8,
     /// The tick that a note is put off to; 0 where none is.
     pub delay_tick: u8,
+    /// The global volume that the voice has; the row's own is [`Record::global_volume`].
     pub voice_global_volume: u8,
+    /// The AdLib voice.
     pub voice: Voice,
 }
 
 impl Record {
+    /// The record of such bytes; include/lomqashe.h has the layout.
     pub fn from_bytes(bytes: &[u8; RECORD_BYTES]) -> Record {
         Record(*bytes)
     }
 
+    /// Its bytes.
     pub fn as_bytes(&self) -> &[u8; RECORD_BYTES] {
         &self.0
     }
@@ -54,10 +72,12 @@ impl Record {
         self.0[0]
     }
 
+    /// The number of the pattern.
     pub fn pattern(&self) -> u8 {
         self.0[1]
     }
 
+    /// The row in the pattern, 0 to 63.
     pub fn row(&self) -> u8 {
         self.0[2]
     }
@@ -67,14 +87,17 @@ impl Record {
         self.0[3] != 0
     }
 
+    /// Ticks of the row.
     pub fn speed(&self) -> u8 {
         self.0[4]
     }
 
+    /// 32 to 255; two fifths of it are the ticks in a second.
     pub fn tempo(&self) -> u8 {
         self.0[5]
     }
 
+    /// The tune's global volume in the row, 0 to 64.
     pub fn global_volume(&self) -> u8 {
         self.0[6]
     }
@@ -119,7 +142,30 @@ impl Record {
 
 impl fmt::Debug for Record {
     fn fmt(&self, f: &mut fmt::Formatter<'_>) -> fmt::Result {
-        write!(f, "Record({:?})", self.line().trim_end())
+        write!(f, "Record({self})")
+    }
+}
+
+/// The row's line of the sheet, without its line feed.
+impl fmt::Display for Record {
+    fn fmt(&self, f: &mut fmt::Formatter<'_>) -> fmt::Result {
+        f.pad(self.line().trim_end())
+    }
+}
+
+impl AsRef<[u8]> for Record {
+    fn as_ref(&self) -> &[u8] {
+        &self.0
+    }
+}
+
+/// Refuses bytes of another length than a record's (rule 13).
+impl TryFrom<&[u8]> for Record {
+    type Error = Refusal;
+
+    fn try_from(bytes: &[u8]) -> Result<Record, Refusal> {
+        ffi::strikes(bytes, &mut [0; CHANNELS])?;
+        Ok(Record(bytes.try_into().expect("the call takes no other length")))
     }
 }
 
@@ -145,14 +191,49 @@ impl ChannelRecord {
 }
 
 /// The struck channels of a row.
-#[derive(Clone, Debug)]
+///
+/// ```
+/// let tune = lomqashe::Tune::read(include_bytes!("../../oracle/examples/worked.s3m"), 60_000)?;
+/// for record in tune.rows(50)? {
+///     for channel in record.strikes() {
+///         println!("a slot of channel {channel} at {}", record.start());
+///     }
+/// }
+/// # Ok::<(), lomqashe::Refusal>(())
+/// ```
+#[derive(Clone, Copy, PartialEq, Eq, Hash)]
 pub struct Strikes {
     channels: [u8; CHANNELS],
     count: usize,
 }
 
 impl Strikes {
+    /// The channels, each once, in no order that is promised.
     pub fn as_slice(&self) -> &[u8] {
         &self.channels[..self.count]
+    }
+}
+
+impl fmt::Debug for Strikes {
+    fn fmt(&self, f: &mut fmt::Formatter<'_>) -> fmt::Result {
+        f.debug_tuple("Strikes").field(&self.as_slice()).finish()
+    }
+}
+
+impl IntoIterator for Strikes {
+    type Item = u8;
+    type IntoIter = std::iter::Take<std::array::IntoIter<u8, CHANNELS>>;
+
+    fn into_iter(self) -> Self::IntoIter {
+        self.channels.into_iter().take(self.count)
+    }
+}
+
+impl<'s> IntoIterator for &'s Strikes {
+    type Item = &'s u8;
+    type IntoIter = std::slice::Iter<'s, u8>;
+
+    fn into_iter(self) -> Self::IntoIter {
+        self.as_slice().iter()
     }
 }

@@ -10,10 +10,13 @@ use std::fmt;
 /// assert_eq!(refusal.number(), 1);
 /// assert_eq!(refusal.to_string(), "the file is shorter than 96 bytes (rule 1)");
 /// ```
-#[derive(Clone, Copy, Debug, PartialEq, Eq, Hash)]
+#[derive(Clone, Copy, PartialEq, Eq, Hash)]
 pub struct Refusal(u8);
 
 impl Refusal {
+    /// A length at the library's border is wrong: no rule of document 01.
+    pub(crate) const WRONG_LENGTH: Refusal = Refusal(255);
+
     /// The refusal of a number; none for 0.
     pub(crate) fn new(number: u8) -> Option<Refusal> {
         (number != 0).then_some(Refusal(number))
@@ -37,7 +40,10 @@ impl Refusal {
             8 => "a packed pattern runs past the file before its 64th row ends",
             9 => "the tables do not have the sizes of a tune",
             10 => "an opening value is out of range: speed, tempo, volume, a pan above 15, or the card rate",
-            11 => "the state is none that a section can go on from",
+            11 => {
+                "the state is none that a section can go on from: its row or loop start is above 63, its speed 0, its \
+                 tempo below 32, its start above 2^62, its card rate out of range, or a frequency or target is not a number"
+            }
             12 => "more than 65,535 rows are asked for, or the output is too short for them",
             13 => "the record is not 536 bytes, or the output is too short for its strikes or line",
             _ => "a length at the library's border is wrong",
@@ -47,7 +53,17 @@ impl Refusal {
 
 impl fmt::Display for Refusal {
     fn fmt(&self, f: &mut fmt::Formatter<'_>) -> fmt::Result {
-        write!(f, "{} (rule {})", self.text(), self.0)
+        match *self {
+            Refusal::WRONG_LENGTH => f.write_str(self.text()),
+            _ => write!(f, "{} (rule {})", self.text(), self.0),
+        }
+    }
+}
+
+/// In words too: it is what `unwrap` shows.
+impl fmt::Debug for Refusal {
+    fn fmt(&self, f: &mut fmt::Formatter<'_>) -> fmt::Result {
+        f.debug_tuple("Refusal").field(&self.0).field(&self.text()).finish()
     }
 }
 

@@ -1,11 +1,23 @@
 //! The state between two sections.
 
+use crate::Refusal;
 use crate::bytes::u64_at;
 use std::fmt;
 
 /// Where a tune stands between two sections, with all that its next row depends on. It is a string of bytes that can be
 /// kept in a file and read again; include/lomqashe.h has the layout.
-#[derive(Clone, PartialEq, Eq)]
+///
+/// ```
+/// use lomqashe::{State, Tune};
+/// let tune = Tune::read(include_bytes!("../../oracle/examples/worked.s3m"), 60_000)?;
+/// let mut rows = tune.rows(50)?;
+/// rows.next();
+/// let kept: Vec<u8> = rows.state().as_ref().to_vec();
+/// let rest = tune.rows_from(State::try_from(&kept[..])?, 50)?;
+/// assert_eq!(rest.count(), 2);
+/// # Ok::<(), lomqashe::Refusal>(())
+/// ```
+#[derive(Clone, PartialEq, Eq, Hash)]
 pub struct State(Box<[u8; State::BYTES]>);
 
 impl State {
@@ -21,8 +33,20 @@ impl State {
         State(Box::new(*bytes))
     }
 
+    /// Its bytes.
     pub fn as_bytes(&self) -> &[u8; State::BYTES] {
         &self.0
+    }
+
+    /// The path's part of the head: where it stands, with its loop, hold, speed, tempo and S infos, and its rate. The
+    /// global volume, the switches, the start and what may stand in the spare bytes are none of it: the order of the rows
+    /// does not depend on them.
+    pub(crate) fn path(&self) -> [u8; 48] {
+        let mut out = [0; 48];
+        out[..12].copy_from_slice(&self.0[..12]);
+        out[12..16].copy_from_slice(&self.0[16..20]);
+        out[16..].copy_from_slice(&self.0[32..64]);
+        out
     }
 
     pub(crate) fn as_mut_bytes(&mut self) -> &mut [u8] {
@@ -47,6 +71,22 @@ impl State {
     /// Where the next row starts on the card, in micrometres: behind the last row, the card's length.
     pub fn start(&self) -> u64 {
         u64_at(&self.0[..], 24)
+    }
+}
+
+impl AsRef<[u8]> for State {
+    fn as_ref(&self) -> &[u8] {
+        &self.0[..]
+    }
+}
+
+/// Refuses bytes of another length than a state's, and nothing else, as [`State::from_bytes`].
+impl TryFrom<&[u8]> for State {
+    type Error = Refusal;
+
+    fn try_from(bytes: &[u8]) -> Result<State, Refusal> {
+        let bytes = bytes.try_into().map_err(|_| Refusal::WRONG_LENGTH)?;
+        Ok(State::from_bytes(bytes))
     }
 }
 

@@ -2,13 +2,17 @@
 
 use crate::bytes::u32_at;
 use crate::opening::OPENING_BYTES;
-use crate::{Opening, PATTERN_BYTES, Refusal, Rows, SAMPLE_BYTES, State, ffi};
+use crate::repeat::first_repeat;
+use crate::{Opening, PATTERN_BYTES, Refusal, Repeat, Rows, SAMPLE_BYTES, Sections, State, ffi};
 
 /// How many entries a file's tables have.
-#[derive(Clone, Copy, Debug, PartialEq, Eq)]
+#[derive(Clone, Copy, Debug, PartialEq, Eq, Hash)]
 pub struct Counts {
+    /// 1 to 255.
     pub orders: usize,
+    /// 0 to 99: as many samples.
     pub instruments: usize,
+    /// 0 to 100.
     pub patterns: usize,
 }
 
@@ -31,7 +35,7 @@ pub fn measure(file: &[u8]) -> Result<Counts, Refusal> {
 }
 
 /// What a section gives beside its records.
-#[derive(Clone, Copy, Debug, PartialEq, Eq)]
+#[derive(Clone, Copy, Debug, PartialEq, Eq, Hash)]
 pub struct Section {
     /// How many records it wrote.
     pub rows: usize,
@@ -39,8 +43,8 @@ pub struct Section {
     pub ended: bool,
 }
 
-/// The tables of a tune and its opening values. Document 01 has the tables' layouts.
-#[derive(Clone, Debug, PartialEq, Eq)]
+/// The tables of a tune and its opening values. include/lomqashe.h has the tables' layouts.
+#[derive(Clone, Debug, PartialEq, Eq, Hash)]
 pub struct Tune {
     /// 0xFE is skipped, 0xFF ends, any other is a pattern's number.
     pub orders: Vec<u8>,
@@ -48,6 +52,7 @@ pub struct Tune {
     pub samples: Vec<u8>,
     /// 10,240 bytes a pattern.
     pub cells: Vec<u8>,
+    /// Speed, tempo and the like, and what each channel opens with.
     pub opening: Opening,
 }
 
@@ -109,11 +114,48 @@ impl Tune {
     /// The rows of the tune from its opening on, cut in sections of so many rows (at least 1, at most 65,535). A tune that
     /// jumps back has no last row.
     pub fn rows(&self, section: u32) -> Result<Rows<'_>, Refusal> {
-        Ok(Rows::new(self, self.open()?, section))
+        self.rows_from(self.open()?, section)
     }
 
-    /// The same from a state on.
-    pub fn rows_from(&self, state: State, section: u32) -> Rows<'_> {
+    /// The same from a state on, or why no section can go on from it (rules 9 and 11).
+    pub fn rows_from(&self, state: State, section: u32) -> Result<Rows<'_>, Refusal> {
         Rows::new(self, state, section)
+    }
+
+    /// The tune cut in sections of so many rows, 1 to 65,535, the last one shorter. More are refused in the first item (rule
+    /// 12); of 0 rows no section comes.
+    ///
+    /// ```
+    /// let tune = lomqashe::Tune::read(include_bytes!("../../oracle/examples/worked.s3m"), 60_000)?;
+    /// for section in tune.sections(2)? {
+    ///     let section = section?;
+    ///     println!("{} rows from {} on", section.records.len(), section.before.start());
+    ///     assert_eq!(section.ended, section.behind.start() == 18_000);
+    /// }
+    /// # Ok::<(), lomqashe::Refusal>(())
+    /// ```
+    pub fn sections(&self, rows: u32) -> Result<Sections<'_>, Refusal> {
+        Ok(self.sections_from(self.open()?, rows))
+    }
+
+    /// The same from a state on. One that no section can go on from is refused in the first item (rules 9 and 11).
+    pub fn sections_from(&self, state: State, rows: u32) -> Sections<'_> {
+        Sections::new(self, state, rows)
+    }
+
+    /// Where the tune begins to repeat, if it does so within `most_rows` rows and does not end before.
+    ///
+    /// ```
+    /// let tune = lomqashe::Tune::read(include_bytes!("../../oracle/examples/worked.s3m"), 60_000)?;
+    /// assert_eq!(tune.first_repeat(10_000)?, None);
+    /// # Ok::<(), lomqashe::Refusal>(())
+    /// ```
+    pub fn first_repeat(&self, most_rows: u64) -> Result<Option<Repeat>, Refusal> {
+        self.first_repeat_from(&self.open()?, most_rows)
+    }
+
+    /// The same from a state on: rows are counted from it, and what came before it is not known.
+    pub fn first_repeat_from(&self, state: &State, most_rows: u64) -> Result<Option<Repeat>, Refusal> {
+        first_repeat(self, state, most_rows)
     }
 }

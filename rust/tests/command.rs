@@ -1,27 +1,9 @@
 //! The command on 01's worked example.
 
-use std::io::Write;
-use std::process::{Command, Output, Stdio};
-use std::{env, fs, process};
+mod common;
 
-const WORKED: &str = concat!(env!("CARGO_MANIFEST_DIR"), "/../oracle/examples/worked.s3m");
-const SHEET: &str = include_str!("../../oracle/examples/worked.sheet");
-
-fn run(words: &[&str], input: &[u8]) -> Output {
-    let mut child = Command::new(env!("CARGO_BIN_EXE_lomqashe"))
-        .args(words)
-        .stdin(Stdio::piped())
-        .stdout(Stdio::piped())
-        .stderr(Stdio::piped())
-        .spawn()
-        .expect("the command starts");
-    let _ = child.stdin.take().expect("it was piped").write_all(input);
-    child.wait_with_output().expect("it ends")
-}
-
-fn text(bytes: &[u8]) -> &str {
-    std::str::from_utf8(bytes).expect("text")
-}
+use common::{SHEET, WORKED, run, text};
+use std::fs;
 
 #[test]
 fn a_file_and_standard_input_have_one_sheet() {
@@ -60,7 +42,13 @@ fn channels_have_a_line_each() {
     let output = run(&["--channels", WORKED], b"");
     let lines: Vec<&str> = text(&output.stdout).lines().collect();
     assert_eq!(lines.len(), 1 + 3 * 32 + 1);
-    assert_eq!(lines[1], "0,0,0,0,0,0,1,1,8363,8363,1,63,3,64,0,64,none");
+    assert_eq!(
+        lines[0],
+        "order,pattern,row,held,speed,tempo,global_volume,start,length,channel,struck,active,frequency,target,\
+         instrument,volume,pan,last_note,delay_tick,voice_global_volume,voice"
+    );
+    assert_eq!(lines[1], "0,0,0,0,6,125,64,0,7200,0,1,1,8363,8363,1,63,3,64,0,64,none");
+    assert!(lines[32 + 1].starts_with("0,0,0,1,6,125,64,7200,7200,0,0,"));
     assert_eq!(lines[lines.len() - 1], "end,3,18000");
 }
 
@@ -81,7 +69,17 @@ fn a_wrong_command_line_has_status_2() {
         &["--rate", "0"][..],
         &["--sections", "0"],
         &["--svg"],
+        &["--svg="],
+        &["--svg", "-"],
+        &["--save", "-"],
+        &["--from=-"],
+        &["--from", WORKED, "--rate", "1"],
         &["--loud"],
+        &["--channels=yes", WORKED],
+        &["--once=no", WORKED],
+        &["--help=no"],
+        &["--version="],
+        &["--=", WORKED],
         &["a", "b"],
         &["/no/such/file"],
     ] {
@@ -95,18 +93,4 @@ fn a_wrong_command_line_has_status_2() {
 fn help_and_version_are_on_standard_output() {
     assert!(text(&run(&["--help"], b"").stdout).contains("usage: lomqashe"));
     assert_eq!(text(&run(&["--version"], b"").stdout), "lomqashe 0.1.0\n");
-}
-
-#[test]
-fn the_drawing_has_a_slot_a_hold_and_the_seams() {
-    let path = env::temp_dir().join(format!("lomqashe-{}.svg", process::id()));
-    let output = run(&["--sections", "1", "--svg", path.to_str().unwrap(), WORKED], b"");
-    assert_eq!(text(&output.stdout), SHEET);
-    let drawing = fs::read_to_string(&path).unwrap();
-    fs::remove_file(&path).unwrap();
-    let count = |what: &str| drawing.matches(what).count();
-    // One of each in the legend.
-    assert_eq!(count("class=\"slot\""), 1 + 1);
-    assert_eq!(count("class=\"held\""), 1 + 1);
-    assert_eq!(count("class=\"seam\""), 1 + 2);
 }

@@ -43,6 +43,7 @@ fn a_state_kept_as_bytes_goes_on_where_it_stopped() {
     let kept = *state.as_bytes();
     let rest: Vec<_> = tune
         .rows_from(State::from_bytes(&kept), 7)
+        .unwrap()
         .map(|record| record.line())
         .collect();
     assert_eq!(rest, lines(&tune, 50)[1..]);

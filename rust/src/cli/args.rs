@@ -1,6 +1,7 @@
 //! The words of a command line.
 
-use std::ffi::OsString;
+use std::ffi::{OsStr, OsString};
+use std::os::unix::ffi::OsStrExt;
 use std::path::PathBuf;
 
 pub enum Wish {
@@ -12,74 +13,131 @@ pub enum Wish {
 pub struct Args {
     /// None is standard input.
     pub file: Option<PathBuf>,
-    pub rate: u32,
+    pub rate: Option<u32>,
     pub rows: u64,
     pub sections: u32,
     pub channels: bool,
+    pub once: bool,
     pub svg: Option<PathBuf>,
+    pub save: Option<PathBuf>,
+    pub from: Option<PathBuf>,
 }
 
 impl Default for Args {
     fn default() -> Args {
         Args {
             file: None,
-            rate: 60_000,
+            rate: None,
             rows: 10_000,
             sections: 50,
             channels: false,
+            once: false,
             svg: None,
+            save: None,
+            from: None,
         }
+    }
+}
+
+/// An option's name, and the value behind its `=`.
+struct Word {
+    name: String,
+    joined: Option<OsString>,
+}
+
+impl Word {
+    fn of(word: &OsStr) -> Word {
+        let bytes = word.as_bytes();
+        let (name, joined) = match bytes.iter().position(|&byte| byte == b'=') {
+            Some(at) => (&bytes[..at], Some(OsStr::from_bytes(&bytes[at + 1..]).to_owned())),
+            None => (bytes, None),
+        };
+        let name = String::from_utf8_lossy(name).into_owned();
+        Word { name, joined }
+    }
+
+    fn alone(&self) -> Result<(), String> {
+        match self.joined {
+            Some(_) => Err(format!("{} takes no value", self.name)),
+            None => Ok(()),
+        }
+    }
+
+    /// The value behind the `=`, or else the next word.
+    fn value(&self, words: &mut impl Iterator<Item = OsString>) -> Result<OsString, String> {
+        let value = self.joined.clone().or_else(|| words.next());
+        value
+            .filter(|value| !value.is_empty())
+            .ok_or(format!("{} needs a value", self.name))
+    }
+
+    fn number(&self, words: &mut impl Iterator<Item = OsString>, least: u64, most: u64) -> Result<u64, String> {
+        let value = self.value(words)?;
+        let (name, text) = (&self.name, value.to_string_lossy());
+        match text.parse() {
+            Ok(n) if (least..=most).contains(&n) => Ok(n),
+            _ => Err(format!("{name} takes a number from {least} to {most}, not {text}")),
+        }
+    }
+
+    /// A file's name; standard output has the sheet, and standard input the tune.
+    fn path(&self, words: &mut impl Iterator<Item = OsString>) -> Result<Option<PathBuf>, String> {
+        let value = self.value(words)?;
+        if value == "-" {
+            return Err(format!("{} needs a file's name, not -", self.name));
+        }
+        Ok(Some(value.into()))
     }
 }
 
 /// The wish of a command line, or what is wrong with it. An option's value stands behind it or behind its `=`.
-pub fn parse(words: impl Iterator<Item = OsString>) -> Result<Wish, String> {
+pub fn parse(mut words: impl Iterator<Item = OsString>) -> Result<Wish, String> {
     let mut args = Args::default();
     let mut files = Vec::new();
-    let mut words = words;
     let mut options = true;
     while let Some(word) = words.next() {
-        let text = word.to_string_lossy().into_owned();
-        if !options || text == "-" || !text.starts_with('-') {
+        if !options || word == "-" || !word.as_bytes().starts_with(b"-") {
             files.push(PathBuf::from(word));
             continue;
         }
-        let (name, joined) = match text.split_once('=') {
-            Some((name, value)) => (name, Some(OsString::from(value))),
-            None => (text.as_str(), None),
-        };
-        let mut value = || {
-            joined
-                .clone()
-                .or_else(|| words.next())
-                .ok_or(format!("{name} needs a value"))
-        };
-        match name {
-            "--" => options = false,
-            "--help" | "-h" => return Ok(Wish::Help),
-            "--version" | "-V" => return Ok(Wish::Version),
-            "--channels" => args.channels = true,
-            "--rate" => args.rate = number(name, value()?, 1, 100_000)? as u32,
-            "--rows" => args.rows = number(name, value()?, 0, u64::from(u32::MAX))?,
-            "--sections" => args.sections = number(name, value()?, 1, 65_535)? as u32,
-            "--svg" => args.svg = Some(value()?.into()),
-            _ => return Err(format!("there is no option {name}")),
+        let word = Word::of(&word);
+        match word.name.as_str() {
+            "--help" | "-h" => return word.alone().map(|()| Wish::Help),
+            "--version" | "-V" => return word.alone().map(|()| Wish::Version),
+            "--" => {
+                word.alone()?;
+                options = false;
+            }
+            _ => option(&mut args, &word, &mut words)?,
         }
     }
-    match files.len() {
-        0 => Ok(Wish::Sheet(args)),
-        1 => {
-            args.file = files.pop().filter(|file| file.as_os_str() != "-");
-            Ok(Wish::Sheet(args))
-        }
-        _ => Err("more than one file is named".into()),
+    if files.len() > 1 {
+        return Err("more than one file is named".into());
     }
+    if args.from.is_some() && args.rate.is_some() {
+        return Err("--rate does not go with --from: a state has its card's rate".into());
+    }
+    args.file = files.pop().filter(|file| file.as_os_str() != "-");
+    Ok(Wish::Sheet(args))
 }
 
-fn number(name: &str, value: OsString, least: u64, most: u64) -> Result<u64, String> {
-    let text = value.to_string_lossy();
-    match text.parse() {
-        Ok(n) if (least..=most).contains(&n) => Ok(n),
-        _ => Err(format!("{name} takes a number from {least} to {most}, not {text}")),
+fn option(args: &mut Args, word: &Word, words: &mut impl Iterator<Item = OsString>) -> Result<(), String> {
+    match word.name.as_str() {
+        "--channels" => {
+            word.alone()?;
+            args.channels = true;
+        }
+        "--once" => {
+            word.alone()?;
+            args.once = true;
+        }
+        "--rate" => args.rate = Some(word.number(words, 1, 100_000)? as u32),
+        "--rows" => args.rows = word.number(words, 0, u64::from(u32::MAX))?,
+        "--sections" => args.sections = word.number(words, 1, 65_535)? as u32,
+        "--svg" => args.svg = word.path(words)?,
+        "--save" => args.save = word.path(words)?,
+        "--from" => args.from = word.path(words)?,
+        name => return Err(format!("there is no option {name}")),
     }
+    Ok(())
 }

@@ -1,18 +1,22 @@
 //! The command line.
 
 mod args;
-mod book;
+mod drawing;
+mod files;
 mod sheet;
-mod svg;
+mod walk;
 
 use args::{Args, Wish};
-use book::Book;
-use lomqashe::Tune;
+use drawing::{Drawing, Plan};
+use files::Saved;
+use lomqashe::{Refusal, Repeat, Tune};
+use sheet::Printer;
 use std::ffi::OsString;
-use std::fs;
-use std::io::{self, BufWriter, Read, Write};
+use std::fs::File;
+use std::io::{self, BufWriter, Write};
 use std::path::{Path, PathBuf};
 use std::process::ExitCode;
+use walk::{End, Run};
 
 const HELP: &str = "\
 Prints the row sheet of a Scream Tracker 3 tune: each row with its start on the card in micrometres.
@@ -23,21 +27,50 @@ Reads standard input where no file is named, or where it is -.
 
   --rate N        the card's micrometres a second, 1 to 100000 (60000)
   --rows N        stop behind so many rows, and say `more` (10000)
+  --once          stop before the rows of an endless tune come again, and say `repeats`
   --sections N    cut the book in sections of N rows, 1 to 65535 (50); the sheet is the same
   --channels      print what the 32 channels do, a line for each row and channel
   --svg FILE      draw the book: the card along, 32 channels across, a slot for each strike
+  --save FILE     write the state behind the last row to a file
+  --from FILE     go on from a state that --save wrote, with the same tune
   --help, --version
 
-The last line of a sheet says `end`, `more` or `refused`. Exit status: 0; 1 where the tune is refused, its rule told on
-standard error; 2 where the command line is wrong or a file cannot be read or written.
+The last line of a sheet has the rows and the card's length so far behind `end`, `more` or `repeats`, or a rule's number
+behind `refused`. With --from both count from the tune's opening, so that the first sheet without its last line and the
+next without its title are the sheet of both: head -n -1 FIRST; tail -n +2 NEXT.
+
+The drawing and the state are written whatever becomes of standard output, and never over the tune.
+
+Exit status: 0, also where the reader of standard output has gone; 1 where the tune or the state is refused, its rule told
+on standard error; 2 where the command line is wrong, or a file cannot be read or written.
 ";
+
+/// 60 mm of card a second.
+const RATE: u32 = 60_000;
 
 /// What went wrong, and the exit status that says so.
 enum Trouble {
-    Refused(lomqashe::Refusal),
+    Refused(Refusal),
     Usage(String),
     File(PathBuf, io::Error),
+    Drawing(String),
     Output(io::Error),
+}
+
+impl Trouble {
+    fn file(path: impl AsRef<Path>, why: io::Error) -> Trouble {
+        Trouble::File(path.as_ref().to_path_buf(), why)
+    }
+
+    fn told(&self) -> String {
+        match self {
+            Trouble::Refused(refusal) => format!("refused: {refusal}"),
+            Trouble::Usage(why) => format!("{why}; see lomqashe --help"),
+            Trouble::File(file, why) => format!("{}: {why}", file.display()),
+            Trouble::Drawing(why) => why.clone(),
+            Trouble::Output(why) => format!("standard output: {why}"),
+        }
+    }
 }
 
 pub fn run(words: impl Iterator<Item = OsString>) -> ExitCode {
@@ -46,19 +79,15 @@ pub fn run(words: impl Iterator<Item = OsString>) -> ExitCode {
         // The reader has gone: there is nobody to tell.
         Err(Trouble::Output(why)) if why.kind() == io::ErrorKind::BrokenPipe => ExitCode::SUCCESS,
         Err(trouble) => {
-            eprintln!("lomqashe: {}", told(&trouble));
+            tell(&trouble.told());
             ExitCode::from(if matches!(trouble, Trouble::Refused(_)) { 1 } else { 2 })
         }
     }
 }
 
-fn told(trouble: &Trouble) -> String {
-    match trouble {
-        Trouble::Refused(refusal) => format!("refused: {refusal}"),
-        Trouble::Usage(why) => format!("{why}; see lomqashe --help"),
-        Trouble::File(file, why) => format!("{}: {why}", file.display()),
-        Trouble::Output(why) => format!("standard output: {why}"),
-    }
+/// A line on standard error, if anybody listens there.
+fn tell(words: &str) {
+    let _ = writeln!(io::stderr(), "lomqashe: {words}");
 }
 
 fn answer(words: impl Iterator<Item = OsString>) -> Result<(), Trouble> {
@@ -71,41 +100,110 @@ fn answer(words: impl Iterator<Item = OsString>) -> Result<(), Trouble> {
     out.flush().map_err(Trouble::Output)
 }
 
+/// Prints the sheet, then writes the files that were asked for. Trouble with the sheet comes last: a closed pipe keeps no
+/// file from being written.
 fn print(args: &Args, out: &mut impl Write) -> Result<(), Trouble> {
-    let file = input(args.file.as_deref())?;
-    match book(&file, args) {
-        Ok(book) => {
-            if args.channels {
-                sheet::print_channels(&book, out).map_err(Trouble::Output)?;
-            } else {
-                sheet::print(&book, out).map_err(Trouble::Output)?;
-            }
-            let Some(path) = &args.svg else { return Ok(()) };
-            let drawing = svg::draw(&book, &title(args));
-            fs::write(path, drawing).map_err(|why| Trouble::File(path.clone(), why))
-        }
-        Err(refusal) => {
-            sheet::print_refused(refusal, args.channels, out).map_err(Trouble::Output)?;
-            out.flush().map_err(Trouble::Output)?;
-            Err(Trouble::Refused(refusal))
-        }
+    files::keep_apart(args)?;
+    let file = files::read_tune(args.file.as_deref())?;
+    let saved = args.from.as_deref().map(Saved::read).transpose()?;
+    let mut printer = Printer::new(out, args.channels);
+    let mut plan = Plan::default();
+    let printed = print_rows(&file, saved, args, &mut printer, &mut plan);
+    if let Err(refusal) = &printed {
+        printer.refused(*refusal);
     }
+    let sheet = printer.finish().map_err(Trouble::Output);
+    let Printed { run, end, repeat } = printed.map_err(Trouble::Refused)?;
+    if let Some(repeat) = repeat {
+        tell_repeat(&repeat, run.before);
+    }
+    let saved = save(&run, &end, args);
+    let drawn = draw(&run, &plan, end.ended, args);
+    saved.and(drawn).and(sheet)
 }
 
-fn book(file: &[u8], args: &Args) -> Result<Book, lomqashe::Refusal> {
-    Book::cut(&Tune::read(file, args.rate)?, args.sections, args.rows)
+/// The rows that were printed, and where they stopped.
+struct Printed {
+    run: Run,
+    end: End,
+    repeat: Option<Repeat>,
 }
 
-fn input(file: Option<&Path>) -> Result<Vec<u8>, Trouble> {
-    match file {
-        Some(path) => fs::read(path).map_err(|why| Trouble::File(path.to_path_buf(), why)),
-        None => {
-            let mut bytes = Vec::new();
-            let read = io::stdin().read_to_end(&mut bytes);
-            read.map_err(|why| Trouble::File("standard input".into(), why))?;
-            Ok(bytes)
-        }
-    }
+/// Prints the rows as they come, and lays the drawing out. Where the sheet's reader has gone it goes on only for a file.
+fn print_rows(
+    file: &[u8],
+    saved: Option<Saved>,
+    args: &Args,
+    printer: &mut Printer<impl Write>,
+    plan: &mut Plan,
+) -> Result<Printed, Refusal> {
+    let mut run = run_asked_for(file, saved, args)?;
+    let repeat = match args.once {
+        true => run.tune.first_repeat_from(&run.state, run.most)?,
+        false => None,
+    };
+    run.most = repeat.map_or(run.most, |repeat| repeat.rows);
+    let end = run.walk(|row| {
+        printer.row(&row.record);
+        plan.see(row);
+        printer.is_open() || args.save.is_some() || args.svg.is_some() && plan.layout().is_ok()
+    })?;
+    let word = match (end.ended, repeat) {
+        (true, _) => "end",
+        (false, Some(_)) => "repeats",
+        (false, None) => "more",
+    };
+    printer.last(word, run.before + end.rows, end.state.start());
+    run.most = end.rows;
+    Ok(Printed { run, end, repeat })
+}
+
+fn run_asked_for(file: &[u8], saved: Option<Saved>, args: &Args) -> Result<Run, Refusal> {
+    let tune = Tune::read(file, args.rate.unwrap_or(RATE))?;
+    let (state, before) = match saved {
+        Some(Saved { rows, state }) => (state, rows),
+        None => (tune.open()?, 0),
+    };
+    Ok(Run {
+        tune,
+        state,
+        before,
+        section: args.sections,
+        most: args.rows,
+    })
+}
+
+fn tell_repeat(repeat: &Repeat, before: u64) {
+    tell(&format!(
+        "repeats: row {} is row {} again (order {}, pattern {}, row {}, start {}); rows are counted from 0",
+        before + repeat.rows,
+        before + repeat.back_to,
+        repeat.order,
+        repeat.pattern,
+        repeat.row,
+        repeat.start
+    ));
+}
+
+fn save(run: &Run, end: &End, args: &Args) -> Result<(), Trouble> {
+    let Some(path) = &args.save else { return Ok(()) };
+    let saved = Saved {
+        rows: run.before + end.rows,
+        state: end.state.clone(),
+    };
+    saved.write(path)
+}
+
+/// Walks the rows that were printed once more, since the drawing's head says what is in them all.
+fn draw(run: &Run, plan: &Plan, ended: bool, args: &Args) -> Result<(), Trouble> {
+    let Some(path) = &args.svg else { return Ok(()) };
+    let layout = plan.layout().map_err(Trouble::Drawing)?;
+    let trouble = |why| Trouble::file(path, why);
+    let out = BufWriter::new(File::create(path).map_err(trouble)?);
+    let mut drawing = Drawing::new(out, layout);
+    drawing.head(plan, &title(args), ended);
+    run.walk(|row| drawing.row(row)).map_err(Trouble::Refused)?;
+    drawing.finish().map_err(trouble)
 }
 
 /// What the drawing is headed with: the file's own name.

@@ -1,49 +1,83 @@
 //! The lines of a sheet.
 
-use super::book::Book;
 use lomqashe::{ChannelRecord, Record, Refusal, Voice};
 use std::io::{self, Write};
 
 const TITLE: &str = "order,pattern,row,held,speed,tempo,start,length,strikes";
-const CHANNEL_TITLE: &str = "order,pattern,row,held,start,channel,struck,active,frequency,target,instrument,volume,pan,last_note,delay_tick,global_volume,voice";
+const CHANNEL_TITLE: &str = "order,pattern,row,held,speed,tempo,global_volume,start,length,channel,struck,active,\
+    frequency,target,instrument,volume,pan,last_note,delay_tick,voice_global_volume,voice";
 
-pub fn print(book: &Book, out: &mut impl Write) -> io::Result<()> {
-    writeln!(out, "{TITLE}")?;
-    for record in &book.records {
-        out.write_all(record.line().as_bytes())?;
-    }
-    print_last(book, out)
+/// Prints a sheet while it can. Behind the first error it prints nothing, and keeps that error.
+pub struct Printer<W: Write> {
+    out: W,
+    /// A line for each row and channel, and not for each row.
+    channels: bool,
+    trouble: Option<io::Error>,
 }
 
-/// A line for each row and channel.
-pub fn print_channels(book: &Book, out: &mut impl Write) -> io::Result<()> {
-    writeln!(out, "{CHANNEL_TITLE}")?;
-    for record in &book.records {
+impl<W: Write> Printer<W> {
+    pub fn new(out: W, channels: bool) -> Printer<W> {
+        let mut printer = Printer {
+            out,
+            channels,
+            trouble: None,
+        };
+        printer.put(&format!("{}\n", if channels { CHANNEL_TITLE } else { TITLE }));
+        printer
+    }
+
+    pub fn is_open(&self) -> bool {
+        self.trouble.is_none()
+    }
+
+    pub fn row(&mut self, record: &Record) {
+        if !self.channels {
+            return self.put(&record.line());
+        }
         for (number, channel) in record.channels().iter().enumerate() {
-            writeln!(out, "{}", channel_line(record, number, channel))?;
+            self.put(&channel_line(record, number, channel));
         }
     }
-    print_last(book, out)
-}
 
-pub fn print_refused(refusal: Refusal, channels: bool, out: &mut impl Write) -> io::Result<()> {
-    let title = if channels { CHANNEL_TITLE } else { TITLE };
-    writeln!(out, "{title}\nrefused,{}", refusal.number())
-}
+    /// The last line: `end`, `more` or `repeats`, the rows and the card's length.
+    pub fn last(&mut self, word: &str, rows: u64, length: u64) {
+        self.put(&format!("{word},{rows},{length}\n"));
+    }
 
-fn print_last(book: &Book, out: &mut impl Write) -> io::Result<()> {
-    let word = if book.ended { "end" } else { "more" };
-    writeln!(out, "{word},{},{}", book.records.len(), book.length)
+    pub fn refused(&mut self, refusal: Refusal) {
+        self.put(&format!("refused,{}\n", refusal.number()));
+    }
+
+    /// What became of the sheet.
+    pub fn finish(mut self) -> io::Result<()> {
+        match self.trouble {
+            Some(why) => Err(why),
+            None => self.out.flush(),
+        }
+    }
+
+    fn put(&mut self, text: &str) {
+        if self.is_open() {
+            self.trouble = self.out.write_all(text.as_bytes()).err();
+        }
+    }
 }
 
 fn channel_line(record: &Record, number: usize, channel: &ChannelRecord) -> String {
-    format!(
-        "{},{},{},{},{},{number},{},{},{},{},{},{},{},{},{},{},{}",
+    let row = format!(
+        "{},{},{},{},{},{},{},{},{}",
         record.order(),
         record.pattern(),
         record.row(),
         u8::from(record.held()),
+        record.speed(),
+        record.tempo(),
+        record.global_volume(),
         record.start(),
+        record.length(),
+    );
+    format!(
+        "{row},{number},{},{},{},{},{},{},{},{},{},{},{}\n",
         record.strike_mask() >> number & 1,
         u8::from(channel.active),
         channel.frequency,
