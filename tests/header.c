@@ -1,41 +1,99 @@
-/* Prints the sheet of the S3M file on standard input, through the header and the archive alone. */
+/* The header and the archive alone. Prints the sheet of the S3M file on standard input. With the argument `null` it tries
+ * NULL with length 0 everywhere, with `stack` how much stack the calls on that file take. */
+#define _GNU_SOURCE
 #include "lomqashe.h"
 #include <stdio.h>
 #include <stdlib.h>
+#include <string.h>
+#include <ucontext.h>
 
 #define ROWS 50
+#define RATE 60000
 
 static uint8_t file[65536], counts[LOMQASHE_COUNTS_SIZE], opening[LOMQASHE_OPENING_SIZE], state[LOMQASHE_STATE_SIZE];
-static uint8_t records[ROWS * LOMQASHE_RECORD_SIZE], line[LOMQASHE_LINE_SIZE];
+static uint8_t records[ROWS * LOMQASHE_RECORD_SIZE], line[LOMQASHE_LINE_SIZE], struck[LOMQASHE_STRIKES_SIZE];
+static size_t file_size, n_orders, n_samples, n_cells;
+static uint8_t *orders, *samples, *cells;
+static uint32_t answer;
 
 static uint32_t at(const uint8_t *bytes)
 {
     return bytes[0] | bytes[1] << 8 | (uint32_t)bytes[2] << 16 | (uint32_t)bytes[3] << 24;
 }
 
-int main(void)
+static void check(int holds, const char *what)
 {
-    size_t size = fread(file, 1, sizeof file, stdin);
+    if (!holds) {
+        fprintf(stderr, "header: %s: %#x\n", what, (unsigned)answer);
+        exit(1);
+    }
+}
+
+static void measure(void)
+{
+    answer = lomqashe_measure(file, file_size, counts, sizeof counts);
+}
+
+static void read_tables(void)
+{
+    answer = lomqashe_read(file, file_size, RATE, orders, n_orders, samples, n_samples, cells, n_cells, opening,
+                           sizeof opening);
+}
+
+static void open_tune(void)
+{
+    answer = lomqashe_open(orders, n_orders, cells, n_cells, samples, n_samples, opening, sizeof opening, state,
+                           sizeof state);
+}
+
+static void section(void)
+{
+    answer = lomqashe_section(orders, n_orders, cells, n_cells, samples, n_samples, state, sizeof state, ROWS, records,
+                              sizeof records);
+}
+
+static void list_strikes(void)
+{
+    answer = lomqashe_strikes(records, LOMQASHE_RECORD_SIZE, struck, sizeof struck);
+}
+
+static void write_line(void)
+{
+    answer = lomqashe_line(records, LOMQASHE_RECORD_SIZE, line, sizeof line);
+}
+
+/* Tables of the sizes that the counts ask for; NULL where that is 0. */
+static void lend_tables(void)
+{
+    n_orders = at(counts);
+    n_samples = at(counts + 4) * LOMQASHE_SAMPLE_SIZE;
+    n_cells = at(counts + 8) * LOMQASHE_PATTERN_SIZE;
+    orders = n_orders ? malloc(n_orders) : NULL;
+    samples = n_samples ? malloc(n_samples) : NULL;
+    cells = n_cells ? malloc(n_cells) : NULL;
+}
+
+static void give_tables_back(void)
+{
+    free(orders);
+    free(samples);
+    free(cells);
+}
+
+static void print_sheet(void)
+{
     puts("order,pattern,row,held,speed,tempo,start,length,strikes");
-    uint32_t answer = lomqashe_measure(file, size, counts, sizeof counts);
-    if (LOMQASHE_REFUSAL(answer) != 0)
-        return 1;
-    size_t n_orders = at(counts);
-    size_t n_samples = at(counts + 4) * LOMQASHE_SAMPLE_SIZE;
-    size_t n_cells = at(counts + 8) * LOMQASHE_PATTERN_SIZE;
-    uint8_t *orders = calloc(n_orders, 1), *samples = calloc(n_samples + 1, 1), *cells = calloc(n_cells + 1, 1);
-    answer = lomqashe_read(file, size, 60000, orders, n_orders, samples, n_samples, cells, n_cells, opening, sizeof opening);
-    if (LOMQASHE_REFUSAL(answer) != 0)
-        return 1;
-    answer = lomqashe_open(orders, n_orders, cells, n_cells, samples, n_samples, opening, sizeof opening, state, sizeof state);
-    if (LOMQASHE_REFUSAL(answer) != 0)
-        return 1;
+    measure();
+    check(LOMQASHE_REFUSAL(answer) == 0, "measure");
+    lend_tables();
+    read_tables();
+    check(LOMQASHE_REFUSAL(answer) == 0, "read");
+    open_tune();
+    check(LOMQASHE_REFUSAL(answer) == 0, "open");
     unsigned rows = 0;
     do {
-        answer = lomqashe_section(orders, n_orders, cells, n_cells, samples, n_samples, state, sizeof state, ROWS, records,
-                                  sizeof records);
-        if (LOMQASHE_REFUSAL(answer) != 0)
-            return 1;
+        section();
+        check(LOMQASHE_REFUSAL(answer) == 0, "section");
         for (unsigned i = 0; i < LOMQASHE_ROWS(answer); i++) {
             uint32_t bytes = lomqashe_line(records + i * LOMQASHE_RECORD_SIZE, LOMQASHE_RECORD_SIZE, line, sizeof line);
             fwrite(line, 1, bytes, stdout);
@@ -43,8 +101,107 @@ int main(void)
         rows += LOMQASHE_ROWS(answer);
     } while (!LOMQASHE_ENDED(answer));
     printf("end,%u,%lu\n", rows, (unsigned long)at(state + 24));
-    free(orders);
-    free(samples);
-    free(cells);
+    give_tables_back();
+}
+
+static void expect_refusal(uint32_t given, uint32_t number, const char *what)
+{
+    answer = given;
+    check(LOMQASHE_REFUSAL(given) == number && LOMQASHE_GIVEN(given) == 0, what);
+}
+
+/* A header with one order, no instrument and no pattern: its samples and cells are NULL. */
+static void null_tables(void)
+{
+    memset(file, 0, 97);
+    file[32] = 1;
+    memcpy(file + 44, "SCRM\x40\x06\x7d", 7);
+    file_size = 97;
+    measure();
+    check(answer == 0, "measure of an empty tune");
+    lend_tables();
+    check(n_samples == 0 && n_cells == 0, "its counts");
+    read_tables();
+    check(answer == 0, "read into NULL tables");
+    open_tune();
+    check(answer == 0, "open with NULL tables");
+    answer = lomqashe_section(orders, n_orders, NULL, 0, NULL, 0, state, sizeof state, 0, NULL, 0);
+    check(answer == 0, "a section of no rows into NULL");
+    section();
+    check(LOMQASHE_ROWS(answer) == 0 && LOMQASHE_ENDED(answer) == 1, "a section with NULL tables");
+}
+
+/* NULL where something is needed is a wrong length like any other. */
+static void null_refusals(void)
+{
+    expect_refusal(lomqashe_measure(NULL, 0, counts, sizeof counts), 1, "measure of NULL");
+    expect_refusal(lomqashe_measure(file, file_size, NULL, 0), 255, "measure into NULL");
+    expect_refusal(lomqashe_read(NULL, 0, RATE, NULL, 0, NULL, 0, NULL, 0, opening, sizeof opening), 1, "read of NULL");
+    expect_refusal(lomqashe_read(file, file_size, RATE, NULL, 0, NULL, 0, NULL, 0, opening, sizeof opening), 6,
+                   "read into NULL orders");
+    expect_refusal(lomqashe_read(file, file_size, RATE, NULL, 0, NULL, 0, NULL, 0, NULL, 0), 255, "read into NULL");
+    expect_refusal(lomqashe_open(NULL, 0, NULL, 0, NULL, 0, opening, sizeof opening, state, sizeof state), 9,
+                   "open of NULL orders");
+    expect_refusal(lomqashe_open(orders, 1, NULL, 0, NULL, 0, NULL, 0, state, sizeof state), 255, "open of NULL");
+    expect_refusal(lomqashe_open(orders, 1, NULL, 0, NULL, 0, opening, sizeof opening, NULL, 0), 255, "open into NULL");
+    expect_refusal(lomqashe_section(NULL, 0, NULL, 0, NULL, 0, state, sizeof state, 0, NULL, 0), 9,
+                   "section of NULL orders");
+    expect_refusal(lomqashe_section(orders, 1, NULL, 0, NULL, 0, NULL, 0, 0, NULL, 0), 255, "section from NULL");
+    expect_refusal(lomqashe_section(orders, 1, NULL, 0, NULL, 0, state, sizeof state, 1, NULL, 0), 12,
+                   "section into NULL");
+    expect_refusal(lomqashe_strikes(NULL, 0, struck, sizeof struck), 13, "strikes of NULL");
+    expect_refusal(lomqashe_strikes(records, LOMQASHE_RECORD_SIZE, NULL, 0), 13, "strikes into NULL");
+    expect_refusal(lomqashe_line(NULL, 0, line, sizeof line), 13, "line of NULL");
+    expect_refusal(lomqashe_line(records, LOMQASHE_RECORD_SIZE, NULL, 0), 13, "line into NULL");
+}
+
+#define STACK 65536
+#define MOST_STACK 32768
+#define PAINT 0xa5
+
+static uint8_t stack[STACK];
+static ucontext_t here, there;
+
+/* How much of a painted stack a call changes. */
+static size_t stack_of(void (*call)(void))
+{
+    size_t clean = 0;
+    memset(stack, PAINT, STACK);
+    getcontext(&there);
+    there.uc_stack.ss_sp = stack;
+    there.uc_stack.ss_size = STACK;
+    there.uc_link = &here;
+    makecontext(&there, call, 0);
+    swapcontext(&here, &there);
+    while (clean < STACK && stack[clean] == PAINT)
+        clean++;
+    return STACK - clean;
+}
+
+/* The second section starts where the first stopped. */
+static void stacks(void)
+{
+    void (*calls[])(void) = {read_tables, open_tune, section, section, list_strikes, write_line};
+    check(stack_of(measure) <= MOST_STACK, "stack of measure");
+    lend_tables();
+    for (size_t i = 0; i < sizeof calls / sizeof *calls; i++) {
+        size_t used = stack_of(calls[i]);
+        check(LOMQASHE_REFUSAL(answer) == 0 && used <= MOST_STACK, "stack of a call");
+    }
+    give_tables_back();
+}
+
+int main(int argc, char **argv)
+{
+    file_size = fread(file, 1, sizeof file, stdin);
+    if (argc < 2) {
+        print_sheet();
+    } else if (strcmp(argv[1], "stack") == 0) {
+        stacks();
+    } else {
+        null_tables();
+        null_refusals();
+        give_tables_back();
+    }
     return 0;
 }

@@ -2,13 +2,23 @@
  * lomqashe.h - the row sheet of a Scream Tracker 3 tune
  *
  * Six functions over numbers and bytes, in the archive target/staticlib/liblomqashe.a that
- * `rt staticlib lomqashe` writes (x86-64). Each result, and every byte written, is proved equal to
- * a definition in crates/lomqashe/specs, for all inputs: no length and no value is a mistake that
- * a function doesn't answer. They keep nothing between calls, allocate nothing, call nothing but
- * memcpy, and may be called from several threads at once.
+ * `rt staticlib lomqashe` writes. Each result, and every byte written, is proved equal to a
+ * definition in crates/lomqashe/specs, for all inputs (of lomqashe_strikes() the order of the
+ * channels is left open): no length and no value is a mistake that a function doesn't answer. They
+ * keep nothing between calls, allocate nothing, call nothing but memcpy and memset, and may be
+ * called from several threads at once.
  *
- * What C must see to: a pointer is not NULL, also where its length is 0 (as in Rust); its length
- * is that of memory which the caller owns; memory that a call writes overlaps no other argument.
+ * The archive is for x86-64: ELF objects, the System V calling convention. It links into programs,
+ * position independent ones too, and into shared objects.
+ *
+ * Stack: lomqashe_section() takes 18,600 bytes at the most, lomqashe_open() 8,648, the others below
+ * 400. This was measured on a painted stack, over 3,000 tunes and states of random bytes and whole
+ * files, and is what the frames in the archive add up to; nothing there calls itself. A test asks
+ * that no call takes more than 32 KiB.
+ *
+ * What C must see to: a pointer's length is that of memory which the caller owns; memory that a
+ * call writes overlaps no other argument. A pointer may be NULL where its length is 0, as that of
+ * an empty std::vector: nothing is read or written there.
  *
  * Numbers
  *
@@ -131,7 +141,9 @@ uint32_t lomqashe_read(const uint8_t *file, size_t file_size, uint32_t rate,
  *     37 vibrato goes on over a new note (flag), 38 tremolo likewise (flag), 39 muted (flag),
  *     40 frozen (flag), 41 right bank (flag), 42 AdLib (flag),
  *     43 AdLib voice (0 none, 1 keyed, 2 released), 44 voice global volume, 45-47 spare,
- *     48-79 effect memory, a byte a command
+ *     48-79 effect memory: at 48 + k the last info that was not 0 of command k (A is 1), for D to
+ *     R and W to Z. H's is U's too; that of S is in the head; A, B, C, T and V have none. The bytes
+ *     that are no command's are kept as they are
  *
  * What is absent is written as 0. The bits of any NaN are read as one NaN, which is written as
  * 0x7fc00000 or 0x7ff8000000000000.

@@ -65,8 +65,9 @@ impl<W: Write> Drawing<W> {
              <g transform=\"translate({MARGIN} 19.5)\"><rect class=\"slot\" width=\"5\" height=\"2.2\" rx=\".6\"/>\
              <text x=\"7\" y=\"2.6\">strike</text><rect class=\"held\" x=\"24\" width=\"5\" height=\"2.6\"/>\
              <text x=\"31\" y=\"2.6\">held row</text><path class=\"pattern\" d=\"M54 0v3\"/>\
-             <text x=\"56\" y=\"2.6\">order (o) of a pattern (p) begins</text>\
-             <path class=\"seam\" d=\"M126 0v3\"/><text x=\"128\" y=\"2.6\">seam</text></g>\n"
+             <text x=\"56\" y=\"2.6\">order (o), pattern (p)</text>\
+             <path class=\"seam\" d=\"M116 0v3\"/><text x=\"118\" y=\"2.6\">seam</text>\
+             <text class=\"number\" x=\"134\" y=\"2.6\">16</text><text x=\"138\" y=\"2.6\">row of its pattern</text></g>\n"
         ));
     }
 

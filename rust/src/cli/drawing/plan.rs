@@ -15,7 +15,8 @@ pub const STRIP_HEIGHT: f64 = CARD + 22.0;
 const STRIP: u64 = 600_000;
 const STRIP_ROWS: usize = 1024;
 
-const NARROWEST: f64 = 200.0;
+/// What the head needs.
+const NARROWEST: f64 = 210.0;
 /// Strips stand in one column up to this height.
 const ONE_COLUMN: f64 = 1_500.0;
 /// Programs draw on at most 32,767 pixels each way, of which there are 96 in 25.4 mm.
