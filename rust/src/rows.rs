@@ -97,7 +97,8 @@ impl fmt::Debug for Rows<'_> {
     fn fmt(&self, f: &mut fmt::Formatter<'_>) -> fmt::Result {
         f.debug_struct("Rows")
             .field("section", &self.section)
-            .field("state", &self.state())
+            .field("before", &self.before)
+            .field("given", &self.given)
             .field("finished", &self.finished)
             .field("refusal", &self.refusal)
             .finish_non_exhaustive()

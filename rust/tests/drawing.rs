@@ -151,3 +151,33 @@ fn a_tune_without_rows_and_an_odd_name_are_drawn() {
     assert!(drawing.contains("a&lt;b&gt;&amp;\u{FFFD}.s3m") && drawing.contains("0 rows, 0 strikes, 0 section(s)"));
     assert!(drawing.ends_with("</svg>\n"));
 }
+
+#[test]
+fn sections_of_a_later_run_are_numbered_on() {
+    let folder = Folder::new("later");
+    let tune = folder.write("tune.s3m", &file(&[0], &[&[put(63, 0, B, 9)]]));
+    let (state, svg) = (folder.path("state"), folder.path("book.svg"));
+    run(&["--rows", "20", "--save", &state, &tune], b"");
+    let words = [
+        "--rows",
+        "30",
+        "--sections",
+        "10",
+        "--from",
+        &state,
+        "--svg",
+        &svg,
+        &tune,
+    ];
+    assert_eq!(run(&words, b"").status.code(), Some(0));
+    let drawing = fs::read_to_string(svg).unwrap();
+    // Rows 20 to 49 are sections 3, 4 and 5.
+    let names: Vec<String> = labels(&drawing, "seam-name")
+        .concat()
+        .into_iter()
+        .map(|(_, text)| text)
+        .collect();
+    assert_eq!(names, ["section 4", "section 5"]);
+    assert!(drawing.contains("30 rows, 0 strikes, 3 section(s), 0.216 m of card, drawn not to its end"));
+    assert!(drawing.contains(">0.144 m</text>"));
+}

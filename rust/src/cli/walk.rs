@@ -14,16 +14,15 @@ pub struct Run {
 
 pub struct Row {
     pub record: Record,
-    /// The number of the section that begins with it, from 2 on: there is a seam before it.
+    /// The number of the section that begins with it, where there is a seam before it.
     pub seam: Option<u64>,
 }
 
 /// Where a walk stopped.
 pub struct End {
     pub state: State,
-    /// How many rows were seen, and the sections that they were cut in.
+    /// How many rows were seen.
     pub rows: u64,
-    pub sections: u64,
     pub ended: bool,
 }
 
@@ -33,22 +32,24 @@ impl Run {
         let mut end = End {
             state: self.state.clone(),
             rows: 0,
-            sections: 0,
             ended: false,
         };
+        // Sections are numbered from 1 on, as if earlier runs had been cut likewise.
+        let earlier = self.before.div_ceil(self.section.into());
+        let mut sections = 0;
         let longest = u64::from(self.section).min(self.most);
         let mut output = vec![0; longest as usize * RECORD_BYTES];
         loop {
             let rows = longest.min(self.most - end.rows) as u32;
             let given = self.tune.section(&mut end.state, rows, &mut output)?;
-            end.sections += u64::from(given.rows > 0);
+            sections += 1;
             end.rows += given.rows as u64;
             end.ended = given.ended;
             let (records, _) = output[..given.rows * RECORD_BYTES].as_chunks();
             for (i, bytes) in records.iter().enumerate() {
                 let row = Row {
                     record: Record::from_bytes(bytes),
-                    seam: (i == 0 && end.sections > 1).then_some(end.sections),
+                    seam: (i == 0 && sections > 1).then_some(earlier + sections),
                 };
                 if !see(&row) {
                     return Ok(end);

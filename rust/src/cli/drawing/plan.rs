@@ -67,7 +67,7 @@ impl Plan {
         self.longest = self.longest.max(self.end - self.cutter.start);
         self.rows += 1;
         self.strikes += u64::from(record.strike_mask().count_ones());
-        self.sections = row.seam.unwrap_or(self.sections.max(1));
+        self.sections += u64::from(self.rows == 1 || row.seam.is_some());
     }
 
     /// How much card is drawn, in micrometres.
