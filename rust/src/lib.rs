@@ -16,6 +16,9 @@
 //! assert_eq!(length, 18_000);
 //! # Ok::<(), lomqashe::Refusal>(())
 //! ```
+//!
+//! [`Tune::sections`] cuts a tune as the table does, with the states on both sides of each section; [`Tune::rows_from`] goes
+//! on from a state that was kept. A tune that jumps back has no end: [`Tune::first_repeat`] says where its rows come again.
 
 #![deny(missing_docs)]
 

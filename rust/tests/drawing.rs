@@ -91,6 +91,12 @@ fn labels_at_the_start_of_a_strip_do_not_overlap() {
     let orders = labels(&drawing, "order");
     assert_eq!(orders[0].len(), 2);
     assert_eq!(orders[1][0].1, "order 2 pattern 0");
+    // A seam's line begins at the card, below the orders' names.
+    let seams: Vec<&str> = drawing
+        .lines()
+        .filter(|line| line.starts_with("<path class=\"seam\""))
+        .collect();
+    assert!(seams.len() > 80 && seams.iter().all(|line| line.contains(" 6v")));
     for (class, size) in [("order", 4.0), ("number", 2.2), ("seam-name", 4.0)] {
         apart(&drawing, class, size);
     }

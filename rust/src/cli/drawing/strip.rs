@@ -37,7 +37,7 @@ impl Strip {
             seams: String::new(),
             orders: Labels::new("order", 4.0, TOP - 1.5),
             numbers: Labels::new("number", 2.2, BOTTOM + 2.6),
-            seam_names: Labels::new("seam-name", 4.0, BOTTOM + 12.0),
+            seam_names: Labels::new("seam-name", 4.0, BOTTOM + 7.0),
         }
     }
 
@@ -96,13 +96,9 @@ impl Strip {
         }
     }
 
+    /// From the card's upper edge to the name below, so that it crosses no label.
     fn seam(&mut self, section: u64, x: f64) {
-        let from = TOP - 3.0;
-        let _ = writeln!(
-            self.seams,
-            "<path class=\"seam\" d=\"M{x:.3} {from}v{}\"/>",
-            BOTTOM + 8.0 - from
-        );
+        let _ = writeln!(self.seams, "<path class=\"seam\" d=\"M{x:.3} {TOP}v{}\"/>", CARD + 3.5);
         self.seam_names.add(Label {
             x,
             text: format!("section {section}"),
@@ -122,7 +118,7 @@ impl Strip {
         let _ = writeln!(
             out,
             "<text y=\"{}\">{:.3} m</text>",
-            BOTTOM + 7.0,
+            BOTTOM + 12.0,
             self.start as f64 / 1e6
         );
         out
