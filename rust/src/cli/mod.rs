@@ -115,7 +115,7 @@ fn print(args: &Args, out: &mut impl Write) -> Result<(), Trouble> {
     let sheet = printer.finish().map_err(Trouble::Output);
     let Printed { run, end, repeat } = printed.map_err(Trouble::Refused)?;
     if let Some(repeat) = repeat {
-        tell_repeat(&repeat, run.before);
+        tell_repeat(&repeat, &run);
     }
     let saved = save(&run, &end, args);
     let drawn = draw(&run, &plan, end.ended, args);
@@ -153,7 +153,7 @@ fn print_rows(
         (false, Some(_)) => "repeats",
         (false, None) => "more",
     };
-    printer.last(word, run.before + end.rows, end.state.start());
+    printer.last(word, run.counted(end.rows), end.state.start());
     run.most = end.rows;
     Ok(Printed { run, end, repeat })
 }
@@ -173,11 +173,11 @@ fn run_asked_for(file: &[u8], saved: Option<Saved>, args: &Args) -> Result<Run, 
     })
 }
 
-fn tell_repeat(repeat: &Repeat, before: u64) {
+fn tell_repeat(repeat: &Repeat, run: &Run) {
     tell(&format!(
         "repeats: row {} is row {} again (order {}, pattern {}, row {}, start {}); rows are counted from 0",
-        before + repeat.rows,
-        before + repeat.back_to,
+        run.counted(repeat.rows),
+        run.counted(repeat.back_to),
         repeat.order,
         repeat.pattern,
         repeat.row,
@@ -188,7 +188,7 @@ fn tell_repeat(repeat: &Repeat, before: u64) {
 fn save(run: &Run, end: &End, args: &Args) -> Result<(), Trouble> {
     let Some(path) = &args.save else { return Ok(()) };
     let saved = Saved {
-        rows: run.before + end.rows,
+        rows: run.counted(end.rows),
         state: end.state.clone(),
     };
     saved.write(path)

@@ -27,6 +27,11 @@ pub struct End {
 }
 
 impl Run {
+    /// So many rows and those of earlier runs; a state's file may name any number.
+    pub fn counted(&self, rows: u64) -> u64 {
+        self.before.saturating_add(rows)
+    }
+
     /// Hands each row to `see`, until that says false.
     pub fn walk(&self, mut see: impl FnMut(&Row) -> bool) -> Result<End, Refusal> {
         let mut end = End {
@@ -36,7 +41,7 @@ impl Run {
         };
         // Sections are numbered from 1 on, as if earlier runs had been cut likewise.
         let earlier = self.before.div_ceil(self.section.into());
-        let mut sections = 0;
+        let mut sections: u64 = 0;
         let longest = u64::from(self.section).min(self.most);
         let mut output = vec![0; longest as usize * RECORD_BYTES];
         loop {
@@ -49,7 +54,7 @@ impl Run {
             for (i, bytes) in records.iter().enumerate() {
                 let row = Row {
                     record: Record::from_bytes(bytes),
-                    seam: (i == 0 && sections > 1).then_some(earlier + sections),
+                    seam: (i == 0 && sections > 1).then_some(sections.saturating_add(earlier)),
                 };
                 if !see(&row) {
                     return Ok(end);
