@@ -11,9 +11,10 @@
  * The archive is for x86-64: ELF objects, the System V calling convention. It links into programs,
  * position independent ones too, and into shared objects.
  *
- * Stack: lomqashe_section() takes 18,600 bytes at the most, lomqashe_open() 8,648, the others below
- * 400. This was measured on a painted stack, over 3,000 tunes and states of random bytes and whole
- * files, and is what the frames in the archive add up to; nothing there calls itself. A test asks
+ * Stack: lomqashe_section() takes 18,600 bytes at the most, lomqashe_open() 8,184, the others below
+ * 400, arguments included. This was measured on a painted stack, over 3,000 tunes and states of
+ * random bytes and two files, and is what the frames in the archive add up to; nothing there calls
+ * itself. Where the dynamic linker looks memcpy up at the first call, that comes on top. A test asks
  * that no call takes more than 32 KiB.
  *
  * What C must see to: a pointer's length is that of memory which the caller owns; memory that a
