@@ -3,7 +3,6 @@
 use crate::both::Both;
 use oracle::calls::Call;
 use oracle::generate::{self, Purpose};
-use oracle::plan;
 use oracle::random::Random;
 use oracle::tune::{CELL, CHANNELS, EMPTY_CELL, PATTERN_BYTES, ROW_BYTES, ROWS, Tune};
 
@@ -14,15 +13,14 @@ const INFOS: usize = 256;
 /// Each cell from one state in a short run, from more with the rows.
 pub fn compare(seed: u64, rows: u64) -> Result<String, String> {
     let mut both = Both::default();
-    let all: Vec<u8> = (0..=255).collect();
     for round in 0..(rows / 125_000).clamp(1, 32) {
         for command in 0..COMMANDS {
             let number = seed + round * COMMANDS + command;
             let random = &mut Random::new(number);
-            for tune in [alone(random, number), plan::planned_tune(random, number, &all)] {
+            for tune in [alone(random, number), together(random, number)] {
                 each_row(&mut both, random, &tune).map_err(|why| format!("seed {number}: {why}"))?;
             }
-            let tune = plan::free_tune(random, number);
+            let tune = generate::tune(random, Purpose::Visits, number);
             anywhere(&mut both, random, &tune).map_err(|why| format!("seed {number}: {why}"))?;
         }
     }
@@ -44,19 +42,38 @@ fn cell(random: &mut Random, command: u8, info: usize) -> [u8; CELL] {
     ]
 }
 
+/// The n-th of the commands.
+fn command(n: u64) -> u8 {
+    let command = (n % COMMANDS) as u8;
+    if command == 31 { 255 } else { command }
+}
+
+/// A tune whose row n of 256 has info n in every channel, and each command in one; the seed tells which has command 0.
+fn together(random: &mut Random, seed: u64) -> Tune {
+    let mut tune = generate::tune(random, Purpose::Visits, seed);
+    tune.orders = (0..(INFOS / ROWS) as u8).collect();
+    tune.cells = tune
+        .cells
+        .into_iter()
+        .cycle()
+        .take(INFOS / ROWS * PATTERN_BYTES)
+        .collect();
+    for (info, row) in tune.cells.chunks_exact_mut(ROW_BYTES).enumerate() {
+        for (cell, n) in row.chunks_exact_mut(CELL).zip(seed..) {
+            (cell[3], cell[4]) = (command(n), info as u8);
+        }
+    }
+    tune
+}
+
 /// A tune whose row n of 256 has info n, with the seed's command in one channel, the others empty.
 fn alone(random: &mut Random, seed: u64) -> Tune {
-    let command = if seed % COMMANDS == COMMANDS - 1 {
-        255
-    } else {
-        (seed % COMMANDS) as u8
-    };
     let mut tune = generate::tune(random, Purpose::Visits, seed);
     tune.orders = (0..(INFOS / ROWS) as u8).collect();
     tune.cells = EMPTY_CELL.repeat(INFOS / ROWS * PATTERN_BYTES / CELL);
     for (info, row) in tune.cells.chunks_exact_mut(ROW_BYTES).enumerate() {
         let channel = random.index(CHANNELS);
-        row[channel * CELL..][..CELL].copy_from_slice(&cell(random, command, info));
+        row[channel * CELL..][..CELL].copy_from_slice(&cell(random, command(seed), info));
     }
     tune
 }
@@ -78,8 +95,7 @@ fn each_row(both: &mut Both, random: &mut Random, tune: &Tune) -> Result<(), Str
 fn anywhere(both: &mut Both, random: &mut Random, tune: &Tune) -> Result<(), String> {
     let mut call = Call::section(tune, Vec::new(), 1, 0);
     for _ in 0..INFOS / 4 {
-        let from = generate::any_state(random, tune);
-        call.slots[3] = generate::unclean(random, &from);
+        call.slots[3] = generate::odd_bytes(random, tune);
         both.same(&call)?;
     }
     Ok(())

@@ -13,7 +13,7 @@ const WALKED: usize = 10;
 
 pub fn compare(random: &mut Random, damaged: u64) -> Result<String, String> {
     let both = &mut Both::default();
-    let recorded: Vec<Vec<u8>> = plan::files().into_iter().map(|call| call.slots[0].clone()).collect();
+    let recorded = plan::files();
     let mut lines = 0;
     for n in 0..recorded.len() + damaged as usize {
         let file = recorded.get(n).cloned().unwrap_or_else(|| {

@@ -40,17 +40,11 @@ fn play(both: &mut Both, placed: &[Placed]) -> Result<usize, String> {
     Ok(placed.len())
 }
 
-/// A number of at most 4 to 32 bits, each as often.
-fn number(random: &mut Random) -> u32 {
-    let bits = 4 + random.below(29);
-    (random.number() >> (64 - bits)) as u32
-}
-
 /// Every note at the c5 speeds of so many tunes.
 fn notes(both: &mut Both, random: &mut Random, tunes: usize) -> Result<usize, String> {
     let mut count = 0;
     for _ in 0..tunes {
-        let c5_speeds: Vec<u32> = (0..SAMPLES).map(|_| number(random)).collect();
+        let c5_speeds: Vec<u32> = (0..SAMPLES).map(|_| pitch::number(random)).collect();
         let placed = (0..=253).flat_map(|note| c5_speeds.iter().map(move |&c5| pitch::note(note, c5)));
         count += play(both, &placed.collect::<Vec<_>>())?;
     }
@@ -65,7 +59,7 @@ fn bare(both: &mut Both, random: &mut Random, least: usize) -> Result<usize, Str
         let placed: Vec<Placed> = (0..CHANNELS)
             .map(|_| Placed {
                 cell,
-                ..pitch::note(0, number(random))
+                ..pitch::note(0, pitch::number(random))
             })
             .collect();
         let tune = pitch::tune(&placed);
@@ -100,30 +94,9 @@ fn periods(both: &mut Both, step: usize) -> Result<usize, String> {
     Ok(count)
 }
 
-/// An offset with a loop that is mostly sound, and often about its ends.
-fn offset(random: &mut Random) -> Placed {
-    let mut bounds = [number(random), number(random), number(random)];
-    if random.chance(80) {
-        bounds.sort_unstable();
-    }
-    let [mut start, mut end, length] = bounds;
-    let (info, near) = (random.byte(), random.below(5) as u32);
-    let offset = u32::from(info) * 256;
-    match random.below(3) {
-        0 => end = (offset + near).saturating_sub(2),
-        1 => start = end.saturating_sub(offset.saturating_sub(end) / (1 + near)),
-        _ => {}
-    }
-    pitch::offset(
-        info,
-        random.chance(90),
-        [start, end, length.max(end.min(length) + near)],
-    )
-}
-
 fn offsets(both: &mut Both, random: &mut Random, rows: usize) -> Result<(), String> {
     for _ in 0..rows {
-        let placed: Vec<Placed> = (0..CHANNELS).map(|_| offset(random)).collect();
+        let placed: Vec<Placed> = (0..CHANNELS).map(|_| pitch::offset(random)).collect();
         let tune = pitch::tune(&placed);
         both.same(&Call::section(&tune, open(&tune).encode(), 1, 0))?;
     }
@@ -134,7 +107,7 @@ fn offsets(both: &mut Both, random: &mut Random, rows: usize) -> Result<(), Stri
 fn frequency(random: &mut Random) -> f32 {
     match random.below(4) {
         0 => f32::from_bits(random.one(&pitch::limits()) - 500 + random.below(1000) as u32),
-        1 => 14_317_456.0 / (1 + number(random)) as f32,
+        1 => 14_317_456.0 / (1 + pitch::number(random)) as f32,
         _ => loop {
             let any = f32::from_bits(random.number() as u32);
             if !any.is_nan() {

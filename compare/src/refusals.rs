@@ -13,9 +13,8 @@ pub fn compare(random: &mut Random, tunes: u64) -> Result<String, String> {
     let both = &mut Both::default();
     for n in 0..tunes {
         let tune = generate::tune(random, Purpose::Visits, n);
-        let state = generate::any_state(random, &tune);
         for _ in 0..CALLS {
-            both.same(&refused::call(random, &tune, &state))
+            both.same(&refused::call(random, &tune))
                 .map_err(|why| format!("tune {n}: {why}"))?;
         }
     }
@@ -26,6 +25,6 @@ pub fn compare(random: &mut Random, tunes: u64) -> Result<String, String> {
 /// One row more than the most, into an output that has the bytes for it.
 fn most(both: &mut Both, random: &mut Random) -> Result<(), String> {
     let tune = generate::tune(random, Purpose::Walks, 1);
-    let state = generate::odd_state(random, &tune).encode();
+    let state = generate::odd_bytes(random, &tune);
     both.same(&Call::section(&tune, state, 65_536, 0)).map(|_| ())
 }

@@ -5,6 +5,7 @@ use oracle::calls::Call;
 use oracle::generate;
 use oracle::random::Random;
 use oracle::rules::MOST_START;
+use oracle::state::State;
 use oracle::tune::{PATTERN_BYTES, Tune, le32, le64};
 
 /// States of a tune, and sections from each.
@@ -54,10 +55,13 @@ fn sections(both: &mut Both, seed: u64, told: &mut Told) -> Result<(), String> {
     };
     section(both, &Call::section(&tune, opened.clone(), long, 3), told)?;
     for i in 0..if large { 3 } else { STATES } {
-        let mut state = generate::any_state(random, &tune);
-        state.ended = i == STATES - 1;
-        let unclean = generate::unclean(random, &state);
-        let start = [&opened, &state.encode(), &unclean][if i == 0 { 0 } else { 1 + i % 2 }].clone();
+        let mut odd = generate::odd_bytes(random, &tune);
+        odd[9] = u8::from(i == STATES - 1);
+        let start = match i {
+            0 => opened.clone(),
+            _ if i % 2 == 1 => odd,
+            _ => State::decode(&odd).encode(),
+        };
         walk(both, random, &tune, start, told).map_err(|why| format!("state {i}: {why}"))?;
     }
     Ok(())

@@ -35,35 +35,35 @@ impl Original {
     /// Up to `limit` rows from a state on by the player alone; how many there were. For timing.
     pub fn rows_alone(&mut self, from: &[u8], limit: usize) -> usize {
         self.set(from);
-        let mut rows = 0;
-        while !self.player.ended && rows < limit {
-            self.player.enter_row();
+        for rows in 0..limit {
+            if !self.player.ended {
+                self.player.enter_row();
+            }
             if self.player.ended {
-                break;
+                return rows;
             }
             self.leave_row();
-            rows += 1;
         }
-        rows
+        limit
     }
 
     /// 01's Section: the same with a record of each row in `output`. `bytes` gives the state behind them.
     pub fn rows_recorded(&mut self, from: &[u8], limit: usize, output: &mut [u8]) -> usize {
         self.set(from);
-        let mut rows = 0;
-        let mut parts = output.chunks_exact_mut(RECORD_BYTES);
-        while !self.player.ended && rows < limit {
-            let Some(strikes) = self.enter_row() else { break };
-            self.put_record(strikes, parts.next().expect("a record for each row"));
-            self.start += u64::from(self.row_length());
-            self.leave_row();
-            rows += 1;
+        for (rows, part) in output.chunks_exact_mut(RECORD_BYTES).take(limit).enumerate() {
+            let Some(record) = self.enter_row() else { return rows };
+            part.copy_from_slice(&record);
+            self.leave_row_timed();
         }
-        rows
+        limit
     }
 
-    /// The struck channels, unless entering ended the tune. The others have their sample position again.
-    fn enter_row(&mut self) -> Option<u32> {
+    /// The record of the next row, unless the tune has ended. The channels that are not struck have their sample position
+    /// again.
+    fn enter_row(&mut self) -> Option<Record> {
+        if self.player.ended {
+            return None;
+        }
         let before: [f64; CHANNELS] = std::array::from_fn(|i| self.player.channels[i].sample_pos);
         for channel in &mut self.player.channels {
             channel.sample_pos = f64::from_bits(UNTOUCHED);
@@ -77,7 +77,7 @@ impl Original {
                 strikes |= 1 << i;
             }
         }
-        (!self.player.ended).then_some(strikes)
+        (!self.player.ended).then(|| self.record(strikes))
     }
 
     fn leave_row(&mut self) {
@@ -87,6 +87,12 @@ impl Original {
         self.player.next_row();
     }
 
+    /// The same, and the card goes on.
+    fn leave_row_timed(&mut self) {
+        self.start += u64::from(self.row_length());
+        self.leave_row();
+    }
+
     /// 01's row length: speed * 5 * rate / (2 * tempo), cut down.
     fn row_length(&self) -> u32 {
         let units = u64::from(self.player.speed) * 5 * u64::from(self.rate);
@@ -94,9 +100,9 @@ impl Original {
     }
 
     /// The record of the row entered: its head of 24 bytes, then 32 channels of 16.
-    fn put_record(&self, strikes: u32, part: &mut [u8]) {
-        let player = &self.player;
-        let (head, channels) = part.split_at_mut(24);
+    fn record(&self, strikes: u32) -> Record {
+        let (player, mut out) = (&self.player, [0; RECORD_BYTES]);
+        let (head, channels) = out.split_at_mut(24);
         let pattern = player.order[usize::from(player.order_index)];
         let held = player.replaying_for_pattern_delay.into();
         head[..4].copy_from_slice(&[player.order_index, pattern, player.row, held]);
@@ -111,6 +117,7 @@ impl Original {
             part[8..12].copy_from_slice(&[ch.instrument, ch.volume, ch.pan, ch.active.into()]);
             part[12..].copy_from_slice(&[ch.last_note, delay, ch.voice_global_vol, voice_mark(ch)]);
         }
+        out
     }
 
     fn set(&mut self, state: &[u8]) {
@@ -162,21 +169,15 @@ pub fn open(tune: &Tune) -> State {
 /// Hands each row of a section from a state on to `each`: the state before, the state entered and the record. Gives the
 /// state behind the section.
 pub fn walk(tune: &Tune, from: State, limit: usize, mut each: impl FnMut(&State, &State, &Record)) -> State {
-    let (mut original, mut state, mut rows) = (Original::new(tune), from, 0);
+    let (mut original, mut state) = (Original::new(tune), from);
     original.set(&state.encode());
-    while !state.ended && rows < limit {
-        let strikes = original.enter_row();
-        let entered = State::decode(&original.bytes());
-        let Some(strikes) = strikes else { return entered };
-        let mut record = [0; RECORD_BYTES];
-        original.put_record(strikes, &mut record);
-        each(&state, &entered, &record);
-        original.start += u64::from(original.row_length());
-        original.leave_row();
+    for _ in 0..limit {
+        let Some(record) = original.enter_row() else { break };
+        each(&state, &State::decode(&original.bytes()), &record);
+        original.leave_row_timed();
         state = State::decode(&original.bytes());
-        rows += 1;
     }
-    state
+    State::decode(&original.bytes())
 }
 
 fn pattern(tune: &Tune, index: usize) -> Pattern {

@@ -7,5 +7,10 @@ pub mod refused;
 mod states;
 mod tunes;
 
-pub use states::{any_state, odd_state, unclean};
-pub use tunes::{Purpose, any_tune, steered_tune, tune};
+use crate::random::Random;
+pub use states::{odd_bytes, odd_state};
+pub use tunes::{Purpose, any_tune, tune};
+
+fn noise(random: &mut Random, count: usize) -> Vec<u8> {
+    (0..count).map(|_| random.byte()).collect()
+}

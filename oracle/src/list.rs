@@ -1,15 +1,16 @@
 //! The one list of recorded calls: README.md has its form.
 
-mod pieces;
-
 use crate::calls::{self, Answer, Call, Function, Slots};
 use crate::tune::le32;
-use pieces::pieces;
 
 /// The bytes of the program's rooms, one for each slot.
 pub const ROOMS: [usize; 5] = [65_536, 1_048_576, 65_536, 65_536, 131_072];
 /// Where a piece would be copied from, if its bytes follow.
-const BYTES: u32 = u32::MAX;
+const BYTES: usize = u32::MAX as usize;
+/// Of a piece in the list: its place, its count, and where it is copied from.
+const PIECE_BYTES: usize = 12;
+/// Runs, and the sizes of cells, records' channels, samples, channels, rows, records and patterns.
+const DISTANCES: [usize; 8] = [1, 5, 16, 20, 80, 160, 536, 10_240];
 
 /// A call with its answer.
 #[derive(Debug, PartialEq, Eq)]
@@ -59,14 +60,48 @@ fn encode_case(rooms: &mut Slots, case: &Case, out: &mut Vec<u8>) {
 /// Puts the pieces that make the first bytes of a room into `new`, and makes them so; how many there are.
 fn encode_pieces(room: &mut [u8], new: &[u8], out: &mut Vec<u8>) -> usize {
     let pieces = pieces(room, new);
-    for piece in &pieces {
-        put(out, [piece.at, piece.count, piece.from.unwrap_or(BYTES as usize)]);
-        if piece.from.is_none() {
-            out.extend(&new[piece.at..piece.at + piece.count]);
+    for &[at, count, from] in &pieces {
+        put(out, [at, count, from]);
+        if from == BYTES {
+            out.extend(&new[at..at + count]);
         }
     }
     room[..new.len()].copy_from_slice(new);
     pieces.len()
+}
+
+/// Place, count and source of each piece. Bytes that are not there yet repeat new ones before them, or follow.
+fn pieces(room: &[u8], new: &[u8]) -> Vec<[usize; 3]> {
+    let (mut out, mut at) = (Vec::<[usize; 3]>::new(), 0);
+    while at < new.len() {
+        let there = equal(&room[at..], &new[at..]);
+        let (count, from) = repeated(new, at);
+        let (new, passed) = match out.last_mut() {
+            _ if there > PIECE_BYTES.max(count) => (None, there),
+            _ if count > PIECE_BYTES => (Some([at, count, from]), count),
+            Some([first, count, BYTES]) if *first + *count == at => {
+                *count += 1;
+                (None, 1)
+            }
+            _ if there > 0 => (None, there),
+            _ => (Some([at, 1, BYTES]), 1),
+        };
+        out.extend(new);
+        at += passed;
+    }
+    out
+}
+
+/// How many bytes from a place on repeat those at one of the distances before it, and which.
+fn repeated(new: &[u8], at: usize) -> (usize, usize) {
+    let sources = DISTANCES.iter().filter_map(|distance| at.checked_sub(*distance));
+    let repeats = sources.map(|from| (equal(&new[from..], &new[at..]), from));
+    repeats.max().unwrap_or_default()
+}
+
+/// How many bytes two parts begin with alike.
+fn equal(one: &[u8], other: &[u8]) -> usize {
+    one.iter().zip(other).take_while(|(a, b)| a == b).count()
 }
 
 /// The cases of a list, or where it is misread.
@@ -102,7 +137,7 @@ impl<'a> Bytes<'a> {
         for _ in 0..count {
             let (at, count, from) = (self.number()?, self.number()?, self.number()?);
             room.get(at..at.checked_add(count)?)?;
-            if from == BYTES as usize {
+            if from == BYTES {
                 room[at..at + count].copy_from_slice(self.take(count)?);
             } else {
                 room.get(from..from.checked_add(count)?)?;

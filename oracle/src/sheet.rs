@@ -1,7 +1,7 @@
 //! The row sheet of a file, in the form that 01 gives for the program `rowsheet`, and the built program held against the
 //! sheets of every recorded file, good or damaged, and of fresh tunes written as files.
 
-use crate::generate::{self, Purpose};
+use crate::generate;
 use crate::player::bridge::{open, walk};
 use crate::random::Random;
 use crate::tune::{Tune, le32, le64};
@@ -62,9 +62,12 @@ pub fn hold(words: &[&str]) -> Result<String, String> {
         (Some(program), Ok(&[seed, tunes])) => (program, seed, tunes),
         _ => return Err("usage: oracle/run sheets PROGRAM [SEED TUNES]".to_string()),
     };
-    let recorded = plan::files().into_iter().map(|call| call.slots[0].clone());
     let (mut files, mut rows, mut endings) = (0, 0, BTreeMap::<String, usize>::new());
-    for (i, file) in recorded.chain((seed..seed + tunes).map(fresh)).enumerate() {
+    for (i, file) in plan::files()
+        .into_iter()
+        .chain((seed..seed + tunes).map(fresh))
+        .enumerate()
+    {
         let (ours, original) = (printed(Path::new(program), file.clone())?, sheet(&file));
         if ours != original {
             return Err(format!("file {i}: {program} says\n{ours}not\n{original}"));
@@ -81,14 +84,9 @@ pub fn hold(words: &[&str]) -> Result<String, String> {
     Ok(format!("sheets: {files} files and {rows} rows the same ({endings})\n"))
 }
 
-/// A tune of a seed as a file, walked from Open: steered, busy or made for walks.
+/// A tune of a seed as a file.
 fn fresh(seed: u64) -> Vec<u8> {
-    let random = &mut Random::new(seed);
-    writer::write(&match seed % 3 {
-        0 => generate::steered_tune(random, seed),
-        1 => generate::tune(random, Purpose::Visits, seed),
-        _ => generate::tune(random, Purpose::Walks, seed),
-    })
+    writer::write(&generate::any_tune(&mut Random::new(seed), seed))
 }
 
 /// What the program prints for a file on its standard input.

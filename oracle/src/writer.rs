@@ -19,12 +19,10 @@ pub fn write(tune: &Tune) -> Vec<u8> {
     }
     draft.set_levels([opening.speed, opening.tempo, opening.global_volume]);
     for (i, sample) in tune.samples.chunks_exact(SAMPLE_BYTES).enumerate() {
-        let pointer = draft.put(&instrument(sample), || 0);
-        draft.set16(lists.instrument_list() + 2 * i, pointer);
+        draft.put_at(lists.instrument_list() + 2 * i, &instrument(sample));
     }
     for i in 0..lists.patterns {
-        let pointer = draft.put(&pattern(tune, i), || 0);
-        draft.set16(lists.pattern_list() + 2 * i, pointer);
+        draft.put_at(lists.pattern_list() + 2 * i, &pattern(tune, i));
     }
     draft.bytes
 }

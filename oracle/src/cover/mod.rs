@@ -56,7 +56,7 @@ struct Tally {
     forms: BTreeSet<&'static str>,
     /// Before the name of a thing that a file has.
     prefix: &'static str,
-    /// How many of the things that are asked for were seen.
+    /// How often something was new of what is asked for.
     met: usize,
 }
 
@@ -69,7 +69,7 @@ impl Tally {
     fn note(&mut self, what: impl AsRef<str>) {
         let walking = usize::from(self.walking);
         let thing = self.thing(what.as_ref());
-        let first = thing.needed.is_some() && thing.seen == [0; 2];
+        let first = thing.is_missing() && thing.seen[walking] == 0;
         thing.seen[walking] += 1;
         self.met += usize::from(first);
     }
@@ -152,15 +152,17 @@ pub fn report(dir: &Path) -> Result<String, String> {
     Err(out)
 }
 
-/// Those of the cases that show something which none before them did, and the first so many.
-pub fn telling(cases: impl Iterator<Item = Case>, first: usize) -> Vec<Case> {
+/// The cases of those groups that are wanted anyway or show something which none before them did.
+pub fn telling(groups: impl Iterator<Item = (bool, Vec<Case>)>) -> Vec<Case> {
     let (mut tally, mut sections) = (asked(), Sections::default());
-    let is_telling = |(i, case): &(usize, Case)| {
+    let is_telling = |(wanted, cases): &(bool, Vec<Case>)| {
         let before = tally.met;
-        see(&mut tally, &mut sections, case).expect("the judge keeps the rules");
-        tally.met > before || *i < first
+        for case in cases {
+            see(&mut tally, &mut sections, case).expect("the judge keeps the rules");
+        }
+        *wanted || tally.met > before
     };
-    cases.enumerate().filter(is_telling).map(|(_, case)| case).collect()
+    groups.filter(is_telling).flat_map(|(_, cases)| cases).collect()
 }
 
 /// A tally that asks for all that no look names.

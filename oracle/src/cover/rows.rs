@@ -85,10 +85,12 @@ pub fn see(tally: &mut Tally, tune: &Tune, seen: &[Seen], [before, entered]: [&S
             continue;
         }
         let (command, met) = (cell.cell.command, tally.infos.entry(cell.cell.command).or_default());
-        met.insert(cell.cell.info);
-        if met.len() >= INFOS && met.contains(&0) {
+        let (new, zero) = (met.insert(cell.cell.info), met.contains(&0));
+        let all = met.len() >= INFOS && zero;
+        if all {
             tally.note(format!("command {command} with {INFOS} infos and 0"));
         }
+        tally.met += usize::from(new && !all && (command <= 30 || command == 255));
     }
 }
 

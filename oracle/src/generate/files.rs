@@ -1,37 +1,100 @@
-//! S3M files, good ones and damaged ones, each from its seed alone.
+//! S3M files, good ones and damaged ones, each from its seed alone: header and lists first, then parts on paragraphs.
 
-mod broken;
-mod draft;
-
+use super::noise;
 use crate::calls::Call;
 use crate::random::Random;
-use crate::reader::{INSTRUMENT_BYTES, Lent, Lists, PANS_MARK};
+use crate::reader::{HEADER_BYTES, INSTRUMENT_BYTES, Lent, Lists, PANS_MARK, follow};
 use crate::tune::{CHANNELS, PATTERN_BYTES, ROWS, SAMPLE_BYTES, le16};
-pub use draft::Draft;
-use draft::{FLAGS, any_instrument, entry, noise, packed, pattern};
 
-const MOST_LENT: Lent = [255, 99 * SAMPLE_BYTES, 6 * PATTERN_BYTES];
+/// The flag bits of an entry, alone and together.
+const FLAGS: [u8; 8] = [0, 0x20, 0x40, 0x60, 0x80, 0xA0, 0xC0, 0xE0];
+const MOST_LENT: Lent = [256, 100 * SAMPLE_BYTES, 6 * PATTERN_BYTES];
 
-/// Read's call on the file of a seed: its kind is drawn first.
+/// A file under construction.
+pub struct Draft {
+    pub bytes: Vec<u8>,
+    lists: Lists,
+}
+
+impl Draft {
+    /// A header with the mark of the format, the counts and the mark of pans, and lists of zeros.
+    pub fn over(mut bytes: Vec<u8>, lists: Lists) -> Draft {
+        bytes[44..48].copy_from_slice(b"SCRM");
+        bytes[53] = match (lists.has_pans, bytes[53]) {
+            (true, _) => PANS_MARK,
+            (false, PANS_MARK) => 0,
+            (false, other) => other,
+        };
+        bytes.resize(lists.end(), 0);
+        let mut draft = Draft { bytes, lists };
+        for (at, count) in [(32, lists.orders), (34, lists.instruments), (36, lists.patterns)] {
+            draft.set16(at, count as u16);
+        }
+        draft
+    }
+
+    fn set16(&mut self, at: usize, value: u16) {
+        self.bytes[at..at + 2].copy_from_slice(&value.to_le_bytes());
+    }
+
+    /// Speed, tempo and global volume.
+    pub fn set_levels(&mut self, [speed, tempo, volume]: [u8; 3]) {
+        self.bytes[48..51].copy_from_slice(&[volume, speed, tempo]);
+    }
+
+    /// Puts a part on the next paragraph.
+    fn put(&mut self, part: &[u8]) {
+        self.bytes.resize(16 * usize::from(self.paragraphs()), 0);
+        self.bytes.extend(part);
+    }
+
+    /// Puts a part to which the pointer at this place points.
+    pub fn put_at(&mut self, pointer: usize, part: &[u8]) {
+        self.set16(pointer, self.paragraphs());
+        self.put(part);
+    }
+
+    /// The pointer of the first paragraph that does not begin in the file.
+    fn paragraphs(&self) -> u16 {
+        self.bytes.len().div_ceil(16) as u16
+    }
+
+    /// The places of the pointers to instruments, then of those to patterns.
+    fn pointers(&self) -> [Vec<usize>; 2] {
+        let Lists {
+            instruments, patterns, ..
+        } = self.lists;
+        let lists = [
+            (self.lists.instrument_list(), instruments),
+            (self.lists.pattern_list(), patterns),
+        ];
+        lists.map(|(list, count)| (0..count).map(|i| list + 2 * i).collect())
+    }
+}
+
+/// Read's call on the file of a seed, which breaks some of the rules 1 to 8 or none.
 pub fn made(seed: u64) -> Call {
     let random = &mut Random::new(seed);
-    let (inside, any) = (random.below(100_001) as u32, random.number() as u32);
-    let edge = random.one(&[0, 1, 100_000, 100_001, u32::MAX]);
-    let rate = random.weighted(&[(2, 60_000), (3, inside), (2, any), (2, edge)]);
-    let (Draft { bytes: file, .. }, other) = match random.below(8) {
-        0 => (song(random), None),
-        1 => (header(random), None),
-        2 => (single_pattern(random), None),
-        3 => (scattered(random), None),
-        4 => (broken::mutated(random), None),
-        5 => (broken::ending(random), None),
-        _ => broken::by_rules(random),
-    };
-    let mut lent = usual_lent(&file);
-    if other.unwrap_or_else(|| random.chance(10)) {
-        broken::change_lent(random, &mut lent);
+    let (any, edge) = (random.number() as u32, random.one(&[0, 1, 100_000, 100_001, u32::MAX]));
+    let rate = random.weighted(&[(2, 60_000), (2, any), (2, edge)]);
+    let count = random.weighted(&[(10, 0), (3, 1), (5, 2), (1, 6)]);
+    let rules: Vec<u8> = (0..count).map(|_| random.between(1, 8)).collect();
+    let mut draft = header(random, rules.contains(&3));
+    if rules.contains(&4) {
+        let (pans, end) = (draft.lists.pans(), draft.lists.end());
+        let any = HEADER_BYTES + random.index(end - HEADER_BYTES + 1);
+        draft
+            .bytes
+            .truncate(random.one(&[end - 1, end - 1, pans - 1, end, any]));
+    } else {
+        put_parts(random, &mut draft);
     }
-    Call::read(&file, rate, &lent)
+    rules.iter().for_each(|&rule| break_rule(random, &mut draft, rule));
+    let mut lent = usual_lent(&draft.bytes);
+    if rules.contains(&6) {
+        change_lent(random, &mut lent);
+    }
+    Call::read(&draft.bytes, rate, &lent)
 }
 
 /// As long as the file's counts need, as far as that goes; 0 without counts.
@@ -41,152 +104,198 @@ fn usual_lent(file: &[u8]) -> Lent {
     std::array::from_fn(|table| needed[table].min(MOST_LENT[table]))
 }
 
-/// A few instruments and one to three patterns.
-fn few(random: &mut Random) -> Lists {
-    let [orders, instruments, patterns] = [9, 3, 3].map(|most| 1 + random.index(most));
+/// Noise wherever nothing is said, levels in range, flags and a version at their edges, all pointers 0.
+fn header(random: &mut Random, broken: bool) -> Draft {
+    let lists = lists(random, broken);
+    let mut draft = Draft::over(noise(random, HEADER_BYTES), lists);
+    let levels = [random.between(1, 255), random.between(32, 255), random.between(0, 64)];
+    draft.set_levels(random.one(&[levels, levels, [1, 32, 0], [255, 255, 64]]));
+    let (any, bit) = (random.number() as u16, 1 << random.below(16));
+    draft.set16(38, random.one(&[any, bit, bit, 0, 16, 64, 0xFFBF]));
+    draft.set16(40, random.one(&[any, 0x1320, 0x1300, 0x1301, 0x12FF, 0x0013]));
+    for order in &mut draft.bytes[HEADER_BYTES..lists.instrument_list()] {
+        let (there, odd) = (random.index(lists.patterns + 1) as u8, random.byte());
+        *order = random.weighted(&[(6, there), (1, 0xFE), (1, 0xFF), (1, odd)]);
+    }
+    draft.bytes[lists.pans()..].fill_with(|| random.byte());
+    draft
+}
+
+/// The counts; where rule 3 is to be broken, one too large or 0, or the most that it takes.
+fn lists(random: &mut Random, broken: bool) -> Lists {
+    let (few, any) = (random.index(5), random.index(100));
+    let orders = 1 + random.weighted(&[(6, few), (1, any), (1, 254)]);
+    let instruments = random.weighted(&[(12, few), (1, any), (1, 99)]);
+    let patterns = random.weighted(&[(8, few), (1, 5), (1, 6)]);
+    let (orders, instruments, patterns) = match random.below(5) {
+        _ if !broken => (orders, instruments, patterns),
+        0 => (0, instruments, patterns),
+        1 => (256, instruments, patterns),
+        2 => (orders, 100, patterns),
+        3 => (orders, instruments, 101),
+        _ => (255, 99, 100),
+    };
     Lists::new(orders, instruments, patterns, random.chance(50))
 }
 
-fn song(random: &mut Random) -> Draft {
-    let (few, many) = (random.index(5), random.index(100));
-    let orders = 1 + random.weighted(&[(3, few), (1, many), (1, 254)]);
-    let instruments = random.weighted(&[(12, few), (1, many), (1, 99)]);
-    let patterns = random.weighted(&[(2, 0), (4, 1), (4, 2), (1, 3), (1, 4), (1, 5), (1, 6)]);
-    let pans = random.chance(50);
-    let mut draft = song_of(random, Lists::new(orders, instruments, patterns, pans));
-    switches(random, &mut draft);
-    draft
-}
-
-/// Instruments and patterns in their order, some shared, some with pointer 0, now and then far from the lists. It ends
-/// with the last part's last byte, or with noise.
-fn song_of(random: &mut Random, lists: Lists) -> Draft {
-    let mut draft = Draft::new(random, lists);
-    if random.chance(5) {
-        let between = 4_000 + random.index(1_000);
-        draft.bytes.extend(noise(random, between));
+/// Own parts, shared ones and none; the file ends with the last, with other bytes, or with a part that is cut. Other
+/// pointers go anywhere, with zeros at the file's end, so that the rows of any pattern end there.
+fn put_parts(random: &mut Random, draft: &mut Draft) {
+    if random.chance(10) {
+        // What would give pans.
+        let pans = noise(random, CHANNELS).into_iter().map(|pan| pan | 0x20);
+        draft.bytes.extend(pans);
+    } else if random.chance(5) && draft.lists.instruments < 9 {
+        draft.bytes.extend(noise(random, 4_096));
     }
-    let own = if lists.instruments > 9 { 8 } else { 80 };
-    parts(
-        random,
-        &mut draft,
-        lists.instrument_list(),
-        lists.instruments,
-        own,
-        any_instrument,
-    );
-    parts(random, &mut draft, lists.pattern_list(), lists.patterns, 75, |random| {
-        let busy = random.one(&[0, 10, 30]);
-        pattern(random, busy)
-    });
-    let behind = random.one(&[0, 0, 1, 40]);
-    draft.bytes.extend(noise(random, behind));
-    draft
+    let [instruments, patterns] = draft.pointers();
+    share(random, draft, &instruments, any_instrument);
+    share(random, draft, &patterns, pattern);
+    let all = [instruments, patterns].concat();
+    match random.below(5) {
+        0 => draft.bytes.extend(noise(random, 40)),
+        1 | 2 if !all.is_empty() => put_last(random, draft),
+        3 => scatter(random, draft, &all),
+        _ => {}
+    }
 }
 
-/// The parts that a list points to; of a hundred so many have their own.
-fn parts(
-    random: &mut Random,
-    draft: &mut Draft,
-    list: usize,
-    count: usize,
-    own: u64,
-    part: impl Fn(&mut Random) -> Vec<u8>,
-) {
-    let mut pointers = vec![0];
-    for i in 0..count {
+fn share(random: &mut Random, draft: &mut Draft, pointers: &[usize], part: fn(&mut Random) -> Vec<u8>) {
+    let own = if pointers.len() > 9 { 8 } else { 80 };
+    for (i, &at) in pointers.iter().enumerate() {
         if i == 0 || random.chance(own) {
-            let part = part(random);
-            pointers.push(draft.put(&part, || random.byte()));
+            draft.put_at(at, &part(random));
+        } else {
+            let shared = le16(&draft.bytes, random.one(&pointers[..i]));
+            draft.set16(at, random.weighted(&[(3, shared), (1, 0)]));
         }
-        let (last, shared) = (pointers[pointers.len() - 1], random.one(&pointers));
-        draft.set16(list + 2 * i, random.weighted(&[(4, last), (1, shared)]));
     }
 }
 
-/// Flags, a version and levels at their edges.
-fn switches(random: &mut Random, draft: &mut Draft) {
-    const VERSIONS: [u16; 11] = [
-        0x1300, 0x1301, 0x12FF, 0x1200, 0x1400, 0x0013, 0x0300, 0x2300, 0x3013, 0, 0xFFFF,
-    ];
-    let (any, bit) = (random.number() as u16, 1 << random.below(16));
-    let flags = random.weighted(&[(2, any), (3, bit), (1, 0), (1, 16), (1, 64), (1, 0xFFBF)]);
-    draft.set16(38, flags);
-    let near = random.one(&VERSIONS);
-    draft.set16(40, random.weighted(&[(1, any), (2, 0x1320), (3, near)]));
-    if random.chance(40) {
-        draft.set_levels(random.one(&[[1, 32, 0], [255, 255, 64], [1, 33, 63], [6, 125, 64], [254, 32, 1]]));
+fn scatter(random: &mut Random, draft: &mut Draft, pointers: &[usize]) {
+    draft.bytes.resize(draft.bytes.len() + INSTRUMENT_BYTES, 0);
+    for &at in pointers {
+        let (there, near) = (le16(&draft.bytes, at), random.between(1, 9).into());
+        let any = random.below(draft.paragraphs().into()) as u16;
+        draft.set16(at, random.one(&[there, there, any, any, near]));
     }
 }
 
-/// A header with one order. Where byte 53 is no mark, what stands behind the lists is no pan, though it has bit 5.
-fn header(random: &mut Random) -> Draft {
-    let lists = Lists::new(1, 0, 0, random.chance(70));
-    let mut draft = Draft::new(random, lists);
-    switches(random, &mut draft);
-    if lists.has_pans && random.chance(20) {
-        draft.bytes[53] = random.one(&[0, 1, 0x7C, 0xEC, 0xF8, PANS_MARK - 1, PANS_MARK + 1, 0xFF]);
-        draft.bytes[lists.pans()..].iter_mut().for_each(|byte| *byte |= 0x20);
+/// A last part that is whole or cut, for any pointer.
+fn put_last(random: &mut Random, draft: &mut Draft) {
+    let [instruments, patterns] = draft.pointers();
+    if patterns.is_empty() || !instruments.is_empty() && random.chance(40) {
+        let mut part = any_instrument(random);
+        let short = random.one(&[0, 1, 1, 1, 2, 16, 48, 79, INSTRUMENT_BYTES]);
+        part.truncate(INSTRUMENT_BYTES - short);
+        return draft.put_at(random.one(&instruments), &part);
     }
-    draft
+    // One entry in the first row or the last.
+    let what = random.one(&FLAGS) | random.between(1, 31);
+    let rows = random.one(&[0, ROWS - 1]);
+    let mut part = vec![0; 2 + rows];
+    part.extend(entry(random, what));
+    let (any, within) = (random.index(3 + rows), 2 + rows + random.index(part.len() - 1 - rows));
+    let whole = part.len() + ROWS - rows;
+    part.resize(whole, 0);
+    part.truncate(random.weighted(&[(1, any), (1, whole), (4, within)]));
+    draft.put_at(random.one(&patterns), &part);
 }
 
-/// One pattern: first bytes of all kinds, a channel named twice or more, and rows of all channels.
-fn single_pattern(random: &mut Random) -> Draft {
-    let mut draft = Draft::new(random, Lists::new(1, 0, 1, false));
-    let kind = random.below(4);
-    let row = |random: &mut Random| {
-        let (channel, [first, then]) = (random.between(1, 31), [0, 1].map(|_| random.one(&FLAGS)));
-        let named: Vec<u8> = match kind {
-            0 => (0..4).map(|_| random.between(1, 255)).collect(),
-            1 => vec![first | channel, then | channel],
-            2 if random.chance(5) => {
-                let twice = |channel: u8| [first | channel, then | (31 - channel)];
-                (0..CHANNELS as u8).flat_map(twice).collect()
-            }
-            _ => Vec::new(),
-        };
-        named
-            .into_iter()
-            .flat_map(|what| entry(random, what))
-            .collect::<Vec<u8>>()
+/// Breaks a rule; 4 and 6 are broken elsewhere.
+fn break_rule(random: &mut Random, draft: &mut Draft, rule: u8) {
+    let length = draft.bytes.len();
+    match rule {
+        1 => draft
+            .bytes
+            .truncate(random.one(&[HEADER_BYTES - 1, 51, 0, 1, HEADER_BYTES])),
+        2 if length >= 48 => draft.bytes[44 + random.index(4)] ^= 1 << random.index(8),
+        3 if length >= 48 && random.chance(20) => draft.set16(random.one(&[32, 34, 36]), 0xFFFF),
+        5 if length >= 51 => {
+            draft.set_levels(random.one(&[[0, 125, 64], [6, 31, 64], [6, 125, 65], [0, 0, 255], [6, 0, 64]]));
+        }
+        7 | 8 => point_past(random, draft, rule),
+        _ => {}
+    }
+}
+
+/// A pointer past the file: just behind it, or far; cut to 16 bits it may name a whole part.
+fn point_past(random: &mut Random, draft: &mut Draft, rule: u8) {
+    let pointers = &draft.pointers()[usize::from(rule - 7)];
+    let (Some(first), Some(last)) = (pointers.first(), pointers.last()) else {
+        return;
     };
-    let rows: Vec<Vec<u8>> = (0..ROWS).map(|_| row(random)).collect();
-    let part = packed(random, &rows);
-    let pointer = draft.put(&part, || random.byte());
-    draft.set16(draft.lists.pattern_list(), pointer);
-    draft
+    let any = random.one(pointers);
+    let at = random.one(&[*first, *last, any]);
+    if at + 2 <= draft.bytes.len() {
+        let (near, own) = (draft.paragraphs(), le16(&draft.bytes, at) % 0x1000);
+        draft.set16(
+            at,
+            random.one(&[near, near + 1, 0x1001, 0xFFFF, 0x1000 + own, 0xF000 + own]),
+        );
+    }
 }
 
-/// A song with zeros at its end, so that the rows of any pattern end there, and pointers into the header, the lists and
-/// each other's parts.
-fn scattered(random: &mut Random) -> Draft {
-    let mut lists = few(random);
-    lists.instruments += random.index(3);
-    let mut draft = song_of(random, lists);
-    let end = draft.bytes.len() + ROWS + 5;
-    draft.bytes.resize(end, 0);
-    let behind = (lists.pans() / 16) as u16;
-    for i in 0..lists.instruments {
-        let (pointer, near) = (
-            random.index((end - INSTRUMENT_BYTES) / 16 + 1) as u16,
-            random.between(1, 6).into(),
-        );
-        if random.chance(70) {
-            draft.set16(
-                lists.instrument_list() + 2 * i,
-                random.weighted(&[(3, pointer), (1, near)]),
-            );
+/// One table of another length, often by one byte.
+fn change_lent(random: &mut Random, lent: &mut Lent) {
+    let table = random.index(3);
+    let by = random.one(&[1, 1, 1, 20, 10_240]);
+    let longer = lent[table] + by <= MOST_LENT[table] && random.chance(50);
+    lent[table] = if longer {
+        lent[table] + by
+    } else {
+        lent[table].saturating_sub(by)
+    };
+}
+
+/// 80 bytes of noise with a type; the numbers are small in half of them.
+fn any_instrument(random: &mut Random) -> Vec<u8> {
+    let mut out = noise(random, INSTRUMENT_BYTES);
+    out[0] = random.one(&[1, 1, 1, 1, 0, 2, 3, 4, 5, 6, 7, 8, 9, 255, out[0]]);
+    for at in [16, 20, 24, 32] {
+        if random.chance(50) {
+            out[at + 2..at + 4].fill(0);
         }
     }
-    for i in 0..lists.patterns {
-        let (pointer, near) = (random.index((end - ROWS - 7) / 16) as u16, random.between(1, 6).into());
-        if random.chance(70) {
-            draft.set16(
-                lists.pattern_list() + 2 * i,
-                random.weighted(&[(3, pointer), (1, near), (1, behind)]),
-            );
+    out[28] = random.one(&[64, 0, 65, out[28]]);
+    out[31] = random.one(&[0, 1, 255, out[31]]);
+    out
+}
+
+/// Rows with and without entries, each ended by 0, behind a word that nobody reads.
+fn pattern(random: &mut Random) -> Vec<u8> {
+    let busy = random.one(&[0, 10, 30]);
+    let mut out = vec![0; 2];
+    for _ in 0..ROWS {
+        if random.chance(busy) {
+            out.extend(row(random));
         }
+        out.push(0);
     }
-    draft
+    let (right, any) = (out.len() as u16, random.number() as u16);
+    let word = random.one(&[right, 0, 2, 65_535, any]);
+    out[..2].copy_from_slice(&word.to_le_bytes());
+    out
+}
+
+/// Entries of channels that follow each other, some named again.
+fn row(random: &mut Random) -> Vec<u8> {
+    let (mut out, mut channel) = (Vec::new(), random.between(0, 31));
+    for _ in 0..random.weighted(&[(60, 1), (40, 2), (20, 4), (8, 9), (1, 70)]) {
+        let flags = random.one(&FLAGS);
+        out.extend(entry(random, flags | channel));
+        channel = (channel + random.one(&[0, 1, 1])) % 32;
+    }
+    out
+}
+
+/// An entry with what its first byte says; a first byte of 0 would end the row, and becomes a note on channel 0.
+fn entry(random: &mut Random, what: u8) -> Vec<u8> {
+    let what = if what == 0 { 0x20 } else { what };
+    let mut out = vec![what];
+    for _ in 0..follow(what) {
+        let any = random.byte();
+        out.push(random.weighted(&[(1, 0), (1, 255), (6, any)]));
+    }
+    out
 }

@@ -2,6 +2,7 @@
 
 use crate::player::cmd::*;
 use crate::player::{AMIGA_CLOCK_HZ, AMIGA_LIMIT_PERIOD_MAX, AMIGA_LIMIT_PERIOD_MIN};
+use crate::random::Random;
 use crate::tune::{CELL, CHANNELS, EMPTY_CELL, Opening, PATTERN_BYTES, ROWS, SAMPLE_BYTES, Tune};
 
 /// A cell and the sample that it plays.
@@ -24,10 +25,22 @@ pub fn note(note: u8, c5: u32) -> Placed {
     placed([note, 1, 255, 0, 0], false, [0, 0, 0, c5])
 }
 
-/// A sample offset of 256 times the info, with the loop's start and end and the sample's length.
-pub fn offset(info: u8, looped: bool, [start, end, length]: [u32; 3]) -> Placed {
+/// A sample offset with a loop that is mostly sound, and often about its ends.
+pub fn offset(random: &mut Random) -> Placed {
+    let (any, [near, far]) = (random.byte(), [(); 2].map(|_| number(random)));
+    let info = random.one(&[any, any, 0, 1, 255]);
+    let end = (u32::from(info) * 256 + near % 3).saturating_sub(1);
+    let end = random.one(&[end, end, near, u32::MAX]);
+    let start = random.one(&[0, 7, far.min(end), end.saturating_sub(1), end, far]);
+    let length = random.one(&[end, end, u32::MAX, end.saturating_sub(1), far]);
     let cell = [0x40, 1, 255, O_SAMPLE_OFFSET, info];
-    placed(cell, looped, [length, start, end, 8363])
+    placed(cell, random.chance(90), [length, start, end, 8363])
+}
+
+/// A number of at most 4 to 32 bits, each as often.
+pub fn number(random: &mut Random) -> u32 {
+    let bits = 4 + random.below(29);
+    (random.number() >> (64 - bits)) as u32
 }
 
 /// A tune that plays these one behind the other, 32 a row. Cells share equal samples, of which there may be 99.

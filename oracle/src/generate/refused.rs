@@ -1,62 +1,39 @@
 //! Calls that may break any of the rules 9 to 13 and 255, alone or together.
 
-use super::unclean;
+use super::{noise, odd_bytes};
 use crate::calls::{Call, Function};
+use crate::list::ROOMS;
 use crate::random::Random;
 use crate::rules::MOST_START;
-use crate::state::State;
 use crate::tune::{OPENING_BYTES, PATTERN_BYTES, RECORD_BYTES, SAMPLE_BYTES, Tune, WORKED};
 
 /// What the worked example needs.
 const LENT: [usize; 3] = [1, SAMPLE_BYTES, PATTERN_BYTES];
 const NANS: [u32; 4] = [0x7F80_0001, 0x7FC0_0000, 0xFF80_0001, 0xFFFF_FFFF];
+/// Lengths that rule 9 refuses, and that of opening values.
+const LENGTHS: [usize; 5] = [0, 256, 100 * SAMPLE_BYTES, 101 * PATTERN_BYTES, OPENING_BYTES];
 
-/// A call on a tune, from a state.
-pub fn call(random: &mut Random, tune: &Tune, state: &State) -> Call {
-    let mut tune = tune.clone();
-    if random.chance(30) {
-        break_tables(random, &mut tune);
-    }
-    let (call, slots): (Call, &[usize]) = match random.below(10) {
-        0 => (Call::measure(file(random)), &[1]),
-        1 => (Call::read(file(random), random.number() as u32, &LENT), &[4]),
-        2..5 => (open(random, &mut tune), &[3, 4]),
-        5..8 => (section(random, &tune, state.clone()), &[3]),
-        _ => (record(random), &[]),
+/// A call on a tune, now and then with another length of a slot or two.
+pub fn call(random: &mut Random, tune: &Tune) -> Call {
+    let mut call = match random.below(10) {
+        0 => Call::measure(WORKED),
+        1 => Call::read(WORKED, random.number() as u32, &LENT),
+        2..5 => open(random, tune.clone()),
+        5..8 => section(random, tune),
+        _ => record(random),
     };
-    resized(random, call, slots)
-}
-
-fn file(random: &mut Random) -> &'static [u8] {
-    if random.chance(50) { WORKED } else { &[] }
-}
-
-/// Now and then another length of one of these slots.
-fn resized(random: &mut Random, mut call: Call, slots: &[usize]) -> Call {
-    if !slots.is_empty() && random.chance(20) {
-        let slot = &mut call.slots[random.one(slots)];
-        let other = random.one(&[0, 1, slot.len() - 1, slot.len() + 1, OPENING_BYTES]);
-        slot.resize(other, 0);
+    let last = call.slots.iter().rposition(|slot| !slot.is_empty());
+    for _ in 0..random.one(&[0, 0, 1, 2]) {
+        let at = random.index(last.map_or(1, |last| last + 1));
+        let (length, any) = (call.slots[at].len(), random.one(&LENGTHS));
+        let other = random.one(&[any, any, length.saturating_sub(1), length + 1]);
+        call.slots[at].resize(other.min(ROOMS[at]), 0);
     }
     call
 }
 
-/// Sizes that rule 9 refuses, or no pattern, which it takes.
-fn break_tables(random: &mut Random, tune: &mut Tune) {
-    match random.below(8) {
-        0 => tune.orders.clear(),
-        1 => tune.orders.resize(256, 0),
-        2 => tune.cells.push(0),
-        3 => tune.cells.truncate(PATTERN_BYTES - 1),
-        4 => tune.cells.resize(101 * PATTERN_BYTES, 0),
-        5 => tune.samples.push(0),
-        6 => tune.samples.resize(100 * SAMPLE_BYTES, 0),
-        _ => tune.cells.clear(),
-    }
-}
-
 /// Open with values that may break rule 10, flags above 1 and bytes that are not read.
-fn open(random: &mut Random, tune: &mut Tune) -> Call {
+fn open(random: &mut Random, mut tune: Tune) -> Call {
     let opening = &mut tune.opening;
     match random.below(12) {
         0 => opening.speed = 0,
@@ -67,7 +44,7 @@ fn open(random: &mut Random, tune: &mut Tune) -> Call {
         5 => opening.rate = 100_001 + random.below(1 << 31) as u32,
         _ => {}
     }
-    let mut call = Call::open(tune);
+    let mut call = Call::open(&tune);
     for at in 3..if random.chance(30) { OPENING_BYTES } else { 3 } {
         let byte = &mut call.slots[3][at];
         let flag = at < 5 || at >= 16 && at % 4 != 0;
@@ -78,36 +55,36 @@ fn open(random: &mut Random, tune: &mut Tune) -> Call {
     call
 }
 
-/// Section with a state, a size and an output that may break rules 11 and 12.
-fn section(random: &mut Random, tune: &Tune, mut state: State) -> Call {
+/// Section with a state and a size that may break rules 11 and 12.
+fn section(random: &mut Random, tune: &Tune) -> Call {
+    let mut state = odd_bytes(random, tune);
     break_state(random, &mut state);
-    let odd = random.chance(50);
-    let mut bytes = if odd { unclean(random, &state) } else { state.encode() };
-    if random.chance(15) {
-        let at = 64 + 80 * random.index(32) + 4 * random.index(2);
-        bytes[at..at + 4].copy_from_slice(&random.one(&NANS).to_le_bytes());
-    }
-    let far = 65_536 + random.below(1 << 31) as u32;
-    let n = random.index(7);
-    let output = [0, 3 * RECORD_BYTES - 1, 0, 0, 536, 1_073, 540][n];
-    let mut call = Call::section(tune, bytes, 0, output);
-    call.number = [far, 3, 1, 0, 1, 2, 1][n];
+    let (n, far) = (random.below(4) as u32, 65_536 + random.below(1 << 31) as u32);
+    let mut call = Call::section(tune, state, n, random.index(2));
+    call.number = random.weighted(&[(5, n), (1, far)]);
     call
 }
 
 /// A place of the state with a value that it may not have, or the last state that rule 11 lets through.
-fn break_state(random: &mut Random, state: &mut State) {
-    match random.below(18) {
-        0 => state.row = random.between(64, 255),
-        1 => state.loop_start_row = random.between(64, 255),
-        2 => state.speed = 0,
-        3 => state.bpm = random.between(0, 31),
-        4 => state.start = random.one(&[MOST_START + 1, u64::MAX]),
-        5 => state.rate = 0,
-        6 => state.rate = random.one(&[100_001, u32::MAX]),
-        7 => {
-            (state.row, state.loop_start_row, state.speed, state.bpm) = (63, 63, 1, 32);
-            (state.start, state.rate) = (MOST_START, random.one(&[1, 100_000]));
+fn break_state(random: &mut Random, state: &mut [u8]) {
+    let mut put = |at: usize, bytes: &[u8]| state[at..at + bytes.len()].copy_from_slice(bytes);
+    let channel = 64 + 80 * random.index(32);
+    match random.below(20) {
+        0 => put(1, &[random.between(64, 255)]),
+        1 => put(6, &[random.between(64, 255)]),
+        2 => put(10, &[0]),
+        3 => put(11, &[random.between(0, 31)]),
+        4 => put(24, &random.one(&[MOST_START + 1, u64::MAX]).to_le_bytes()),
+        5 => put(16, &[0; 4]),
+        6 => put(16, &random.one(&[100_001, u32::MAX]).to_le_bytes()),
+        7 | 8 => put(channel, &random.one(&NANS).to_le_bytes()),
+        9 | 10 => put(channel + 4, &random.one(&NANS).to_le_bytes()),
+        11 => {
+            put(1, &[63]);
+            put(6, &[63]);
+            put(10, &[1, 32]);
+            put(16, &random.one(&[1, 100_000u32]).to_le_bytes());
+            put(24, &MOST_START.to_le_bytes());
         }
         _ => {}
     }
@@ -115,9 +92,12 @@ fn break_state(random: &mut Random, state: &mut State) {
 
 /// Strikes or Line of any bytes, or all alike.
 fn record(random: &mut Random) -> Call {
-    let length = random.weighted(&[(6, RECORD_BYTES), (1, 535), (1, 537), (1, 0)]);
-    let alike = random.one(&[Some(0), Some(255), None, None]);
-    let bytes: Vec<u8> = (0..length).map(|_| alike.unwrap_or_else(|| random.byte())).collect();
-    let output = random.weighted(&[(3, 80), (2, 64), (1, 63), (1, 32), (1, 31), (1, 0)]);
-    Call::of_record(random.one(&[Function::Strikes, Function::Line]), &bytes, output)
+    let any = noise(random, RECORD_BYTES);
+    let record = match random.below(4) {
+        0 => vec![0; RECORD_BYTES],
+        1 => vec![255; RECORD_BYTES],
+        _ => any,
+    };
+    let output = random.weighted(&[(3, 80), (2, 64), (1, 63), (1, 32), (1, 31)]);
+    Call::of_record(random.one(&[Function::Strikes, Function::Line]), &record, output)
 }

@@ -2,7 +2,7 @@
 
 use super::cells;
 use crate::random::Random;
-use crate::tune::{CELL, ChannelOpening, Opening, ROW_BYTES, SAMPLE_BYTES, Tune};
+use crate::tune::{ChannelOpening, Opening, SAMPLE_BYTES, Tune};
 
 /// What a tune is made for.
 #[derive(Clone, Copy, PartialEq, Eq)]
@@ -19,62 +19,40 @@ pub struct Style {
     pub patterns: usize,
     pub samples: usize,
     pub orders: usize,
-    /// Rows in a hundred that carry a planned meeting of path effects.
-    pub meetings: u64,
-    /// Of a hundred free cells drawn as B, C, SB or SE, those that stay it.
+    /// Rows in a hundred on which path effects meet.
     pub path: u64,
+    /// Of a hundred free cells drawn as B, C, SB or SE, those that stay it.
+    pub free: u64,
+    /// Orders in a hundred that are skipped.
+    skipped: u64,
 }
 
 /// The tune of a seed; `random` is that seed's, so that states can follow.
 pub fn tune(random: &mut Random, purpose: Purpose, seed: u64) -> Tune {
     let style = style(random, purpose, seed);
     Tune {
-        orders: orders(random, &style, seed),
+        orders: orders(random, &style),
         samples: (0..style.samples).flat_map(|_| sample(random)).collect(),
         cells: cells::cells(random, &style),
         opening: opening(random),
     }
 }
 
-/// A third of the tunes each: walked from Open, steered, and busy ones.
+/// A third of the tunes is made for walks.
 pub fn any_tune(random: &mut Random, seed: u64) -> Tune {
-    match seed % 3 {
-        0 => tune(random, Purpose::Walks, seed),
-        1 => steered_tune(random, seed),
-        _ => tune(random, Purpose::Visits, seed),
-    }
-}
-
-/// A tune for visits that is odd on the path: runs of 0xFE in the orders, of which the first stays, and A, B, C, S and T
-/// thick in the cells.
-pub fn steered_tune(random: &mut Random, seed: u64) -> Tune {
-    let mut tune = tune(random, Purpose::Visits, seed);
-    let missing = tune.patterns() as u8;
-    let skipped = random.one(&[0, 10, 40, 90]);
-    for order in &mut tune.orders[1..] {
-        if random.chance(skipped) {
-            *order = 0xFE;
-        } else if random.chance(5) {
-            *order = random.one(&[0xFF, 0xFD, missing]);
-        }
-    }
-    for row in tune.cells.chunks_exact_mut(ROW_BYTES) {
-        let steered = random.weighted(&[(1, 0), (3, 3), (3, 10), (2, 40), (1, 100)]);
-        for cell in row.chunks_exact_mut(CELL) {
-            if random.chance(steered) {
-                (cell[3], cell[4]) = cells::path_effect(random, tune.orders.len());
-            }
-        }
-    }
-    tune
+    let purpose = if seed.is_multiple_of(3) {
+        Purpose::Walks
+    } else {
+        Purpose::Visits
+    };
+    tune(random, purpose, seed)
 }
 
 /// The seed's remainder by 8 sees to the extreme sizes.
 fn style(random: &mut Random, purpose: Purpose, seed: u64) -> Style {
     let walks = purpose == Purpose::Walks;
     let most = random.one(if walks { &[2, 3, 6] } else { &[6, 60, 250] });
-    let orders = 1 + random.index(most);
-    let samples = random.one(&[6, 10, 14]);
+    let (orders, samples) = (1 + random.index(most), random.one(&[6, 10, 14]));
     Style {
         walks,
         patterns: 1 + random.index(if walks { 2 } else { 4 }),
@@ -88,43 +66,39 @@ fn style(random: &mut Random, purpose: Purpose, seed: u64) -> Style {
             1 if !walks => 255,
             _ => orders,
         },
-        meetings: random.one(if walks { &[8, 16, 24] } else { &[30, 50, 70] }),
-        path: random.one(if walks { &[0, 0, 1] } else { &[2, 5, 15] }),
+        path: random.one(if walks { &[8, 16, 24] } else { &[10, 50, 100] }),
+        free: random.one(if walks { &[0, 0, 1] } else { &[2, 15, 100] }),
+        skipped: random.one(if walks { &[20, 20, 20] } else { &[10, 20, 90] }),
     }
 }
 
-/// Patterns with markers, end marks and missing patterns among them. A walk's list has only markers among them, and
-/// behind them a mark, a missing pattern or nothing to end at, by the seed's remainder.
-fn orders(random: &mut Random, style: &Style, seed: u64) -> Vec<u8> {
+/// The first names a pattern; the others name one too, are skipped, or are marks and missing patterns, which stand at a
+/// walk's end alone.
+fn orders(random: &mut Random, style: &Style) -> Vec<u8> {
     let missing = style.patterns as u8;
     let mut out = vec![random.index(style.patterns) as u8];
     while out.len() < style.orders {
-        let there = random.index(style.patterns) as u8;
-        let strange = random.one(&[0xFF, missing, 0xFD]);
-        out.push(match style.walks {
-            true => random.weighted(&[(3, there), (1, 0xFE)]),
-            false => random.weighted(&[(12, there), (3, 0xFE), (2, strange)]),
-        });
+        let (there, strange) = (random.index(style.patterns) as u8, random.one(&[0xFF, missing, 0xFD]));
+        let order = if style.walks {
+            there
+        } else {
+            random.weighted(&[(6, there), (1, strange)])
+        };
+        out.push(if random.chance(style.skipped) { 0xFE } else { order });
     }
-    match seed % 4 {
-        _ if !style.walks => {}
-        0 => out.extend([0xFE, 0xFF, 0]),
-        2 => out.extend([random.one(&[missing, 99, 0xFD]), 0]),
-        _ => out.extend(vec![0xFE; random.index(3)]),
+    if style.walks && random.chance(70) {
+        out.extend([0xFE, random.one(&[0xFF, missing, 99, 0xFD]), 0]);
     }
     out
 }
 
 fn sample(random: &mut Random) -> [u8; SAMPLE_BYTES] {
+    let (adlib, any) = (random.between(2, 7), random.byte());
     let mut out = [0; SAMPLE_BYTES];
-    out[0] = random.weighted(&[(10, 1), (2, 0), (1, 8), (1, 255)]);
-    if random.chance(30) {
-        out[0] = random.between(2, 7);
-    }
-    let (odd, usual) = (random.byte(), random.between(0, 64));
-    out[1] = random.weighted(&[(6, usual), (2, 64), (1, 63), (1, 65), (1, 255), (2, odd)]);
-    out[2] = random.weighted(&[(2, 0), (4, 1), (1, 2), (1, 255)]);
-    out[3] = random.weighted(&[(3, 0), (1, odd)]);
+    out[0] = random.weighted(&[(7, 1), (4, adlib), (1, 0), (1, any)]);
+    out[1] = random.weighted(&[(6, any % 65), (2, 64), (1, 65), (1, 255), (2, any)]);
+    out[2] = random.weighted(&[(2, 0), (4, 1), (2, any)]);
+    out[3] = random.weighted(&[(3, 0), (1, any)]);
     let [length, loop_start, loop_end] = stretch(random);
     let numbers = [length, loop_start, loop_end, c5_speed(random)];
     out[4..].copy_from_slice(numbers.map(u32::to_le_bytes).as_flattened());
@@ -133,36 +107,28 @@ fn sample(random: &mut Random) -> [u8; SAMPLE_BYTES] {
 
 /// Length, loop start and loop end: loops usable, empty, turned round, or past the end.
 fn stretch(random: &mut Random) -> [u32; 3] {
-    let length = random.weighted(&[(1, 0), (3, 300), (3, 20_000), (2, 65_535), (1, u32::MAX)]);
-    let length = length - (random.below(100) as u32).min(length);
-    let from = random.below(u64::from(length) + 1) as u32;
-    let to = from + random.below(u64::from(length - from) + 1) as u32;
-    let past = length.saturating_add(1);
-    let near = from.saturating_add(1 + random.below(400) as u32).min(length);
-    let [start, end] = match random.below(12) {
-        0..5 => [from, to],
-        5..7 => [100.min(length), length],
-        7..9 => [from, near],
-        9 => [from, from],
-        10 => [to, from],
-        _ => [from, past],
-    };
+    let most = random.weighted(&[(1, 1), (3, 300), (3, 20_000), (2, 65_535), (1, u64::from(u32::MAX))]);
+    let [one, other, length] = [(); 3].map(|_| random.below(most) as u32);
+    let (start, length) = (one.min(length), one.max(length));
+    let near = start.saturating_add(1 + other % 400).min(length);
+    let end = random.weighted(&[
+        (4, other),
+        (3, length),
+        (3, near),
+        (1, start),
+        (1, length.saturating_add(1)),
+    ]);
     [length, start, end]
 }
 
+/// From about 229 million up a period becomes 0, first for the highest notes.
 fn c5_speed(random: &mut Random) -> u32 {
-    let usual = 4_000 + random.below(44_000) as u32;
-    let small = random.below(4_000) as u32;
-    let huge = random.number() as u32;
-    // From about 229 million up a period becomes 0, first for the highest notes.
-    let fast = 400_000 + random.below(250_000_000) as u32;
-    let rare = [fast, huge, 0, 1, u32::MAX];
-    match random.below(21) {
-        0..6 => 8_363,
-        6..14 => usual,
-        14..16 => small,
-        place => rare[place as usize - 16],
-    }
+    let (usual, small) = (4_000 + random.below(44_000), random.below(4_000));
+    let (fast, huge) = (random.below(250_000_000), random.below(1 << 32));
+    let most = u64::from(u32::MAX);
+    let often = [(6, 8_363), (8, usual), (2, small)];
+    let rare = [fast, huge, 0, 1, most].map(|speed| (1, speed));
+    random.weighted(&[&often[..], &rare].concat()) as u32
 }
 
 fn opening(random: &mut Random) -> Opening {
