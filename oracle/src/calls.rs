@@ -107,12 +107,11 @@ impl Call {
     /// The tables that Open or Section is lent, without opening values.
     pub fn tune(&self) -> Tune {
         let [orders, cells, samples, ..] = self.slots.clone();
-        let opening = Opening::default();
         Tune {
             orders,
             cells,
             samples,
-            opening,
+            ..Tune::default()
         }
     }
 

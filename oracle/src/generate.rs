@@ -14,3 +14,12 @@ pub use tunes::{Purpose, any_tune, tune};
 fn noise(random: &mut Random, count: usize) -> Vec<u8> {
     (0..count).map(|_| random.byte()).collect()
 }
+
+/// These flags are 0, each in so many of a hundred.
+fn unset(random: &mut Random, part: &mut [u8], flags: &[(usize, u64)]) {
+    for &(at, percent) in flags {
+        if random.chance(percent) {
+            part[at] = 0;
+        }
+    }
+}

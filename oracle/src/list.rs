@@ -111,11 +111,8 @@ pub fn decode(bytes: &[u8]) -> Result<Vec<Case>, String> {
     let count = left.number().ok_or("the list is empty")?;
     let case = |n: usize| decode_case(&mut left, &mut rooms).ok_or(format!("case {n} is misread"));
     let cases = (0..count).map(case).collect::<Result<_, _>>()?;
-    if left.0.is_empty() {
-        Ok(cases)
-    } else {
-        Err("bytes behind the list".to_string())
-    }
+    let whole = left.0.is_empty().then_some(cases);
+    whole.ok_or("bytes behind the list".to_string())
 }
 
 /// What is left to read.

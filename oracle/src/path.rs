@@ -44,6 +44,7 @@ fn ask(path: &mut State, tune: &Tune, pattern: usize) -> Asked {
     let mut asked = Asked::default();
     for (channel, cell) in tune.row(pattern, path.row.into()).enumerate() {
         let (command, info) = (cell[3], cell[4]);
+        let row = (info >> 4) * 10 + (info & 15);
         let last = &mut path.channels[channel].effect_memory[S_SLOT];
         if command == 19 && info != 0 {
             *last = info;
@@ -52,11 +53,7 @@ fn ask(path: &mut State, tune: &Tune, pattern: usize) -> Asked {
             1 if info != 0 => asked.speed = Some(info),
             20 if info >= 32 => asked.tempo = Some(info),
             2 => asked.order = Some(info),
-            3 => {
-                asked.row = Some((info >> 4) * 10 + (info & 15))
-                    .filter(|&row| row < 64)
-                    .or(asked.row)
-            }
+            3 if row < 64 => asked.row = Some(row),
             19 if *last >> 4 == 0xB => asked.loops = Some(*last & 15),
             19 if *last >> 4 == 0xE => asked.hold = Some(*last & 15),
             _ => {}
@@ -74,10 +71,9 @@ fn follow(path: &mut State, asked: &Asked) -> Option<Jump> {
         Some(p) => {
             let m = path.loop_count.map_or(p, |count| count.saturating_sub(1));
             path.loop_count = (m > 0).then_some(m);
-            jump = path
-                .loop_count
-                .map(|_| (Some(path.order_index), path.loop_start_row))
-                .or(jump);
+            if m > 0 {
+                jump = Some((Some(path.order_index), path.loop_start_row));
+            }
         }
     }
     path.speed = asked.speed.unwrap_or(path.speed);

@@ -3,22 +3,21 @@
 
 mod pitch;
 
-use crate::calls::{Answer, Call, Function};
+use crate::calls::{Call, Function};
 use crate::cover;
 use crate::generate::{self, Purpose, files, refused};
 use crate::list::Case;
 use crate::random::Random;
-use crate::tune::Tune;
 
 pub use pitch::{C5_SPEEDS, PERIODS, frequencies};
 
-/// Cases that go on from each other, and whether they are wanted though they show nothing new.
-type Group = (bool, Vec<Case>);
+/// Cases that go on from each other.
+type Group = Vec<Case>;
 
 const FILES: u64 = 12_000;
-const FIRST_FILES: u64 = 590;
+const FIRST_FILES: usize = 590;
 const WALKS: u64 = 300;
-const WALK_ROWS: u32 = 85;
+const WALK_ROWS: u32 = 130;
 const PARTED: u64 = 40;
 /// As many rows in sections of so many.
 const PARTED_ROWS: u32 = 21;
@@ -38,7 +37,7 @@ pub fn recorded() -> Vec<Case> {
         .chain((0..WALKS).map(walked))
         .chain(refused())
         .chain((0..PARTED).map(parted));
-    let mut cases = cover::telling(groups);
+    let mut cases = cover::telling(groups, FIRST_FILES);
     let sections = cases.iter().filter(|case| case.call.function == Function::Section);
     let rows = sections.flat_map(|case| case.answer.records()).step_by(RECORDS);
     let calls = |row| [Function::Strikes, Function::Line].map(|function| Call::of_record(function, row, 70));
@@ -49,47 +48,34 @@ pub fn recorded() -> Vec<Case> {
 
 /// Each file to Measure and to Read.
 fn file_groups() -> impl Iterator<Item = Group> {
-    (0..FILES).map(|seed| {
-        let read = files::made(seed);
-        let calls = [Call::measure(&read.slots[0]), read];
-        (seed < FIRST_FILES, calls.map(Case::of).into())
-    })
+    let files = (0..FILES).map(files::made);
+    files.map(|read| [Call::measure(&read.slots[0]), read].map(Case::of).into())
 }
 
 /// The files that are recorded.
 pub fn files() -> Vec<Vec<u8>> {
-    let cases = cover::telling(file_groups()).into_iter();
+    let cases = cover::telling(file_groups(), FIRST_FILES).into_iter();
     let read = cases.filter(|case| case.call.function == Function::Read);
     read.map(|Case { call, .. }| call.slots[0].clone()).collect()
 }
 
-/// Adds a call with the judge's answer.
-fn ask(asked: &mut Vec<Case>, call: Call) -> Answer {
+/// Adds a call of Open or Section with the judge's answer; the state behind it.
+fn ask(asked: &mut Vec<Case>, call: Call) -> Vec<u8> {
     let case = Case::of(call);
-    let answer = case.answer.clone();
+    let [.., of_section, of_open] = case.answer.slots.clone();
+    let opened = case.call.function == Function::Open;
     asked.push(case);
-    answer
-}
-
-/// Open's state.
-fn ask_open(asked: &mut Vec<Case>, tune: &Tune) -> Vec<u8> {
-    let [.., state] = ask(asked, Call::open(tune)).slots;
-    state
-}
-
-/// The state behind a section.
-fn ask_section(asked: &mut Vec<Case>, tune: &Tune, state: Vec<u8>, n: u32, spare: usize) -> Vec<u8> {
-    let [.., state, _] = ask(asked, Call::section(tune, state, n, spare)).slots;
-    state
+    if opened { of_open } else { of_section }
 }
 
 /// A tune from Open on, in one section.
 fn walked(seed: u64) -> Group {
     let tune = generate::tune(&mut Random::new(seed), Purpose::Walks, seed);
     let mut asked = Vec::new();
-    let state = ask_open(&mut asked, &tune);
-    ask_section(&mut asked, &tune, state, WALK_ROWS, SPARE[seed as usize % SPARE.len()]);
-    (false, asked)
+    let state = ask(&mut asked, Call::open(&tune));
+    let spare = SPARE[seed as usize % SPARE.len()];
+    ask(&mut asked, Call::section(&tune, state, WALK_ROWS, spare));
+    asked
 }
 
 /// The same rows from Open and from an odd state, all at once and in parts; no rows, and rows from an ended state.
@@ -99,18 +85,18 @@ fn parted(seed: u64) -> Group {
     let (mut asked, mut odd) = (Vec::new(), generate::odd_bytes(random, &tune));
     // Its start is far from the most.
     odd[31] = 0;
-    for start in [ask_open(&mut asked, &tune), odd.clone()] {
+    for start in [ask(&mut asked, Call::open(&tune)), odd.clone()] {
         for n in PARTS {
             let mut state = start.clone();
             for _ in 0..PARTED_ROWS / n {
-                state = ask_section(&mut asked, &tune, state, n, 0);
+                state = ask(&mut asked, Call::section(&tune, state, n, 0));
             }
         }
     }
-    ask_section(&mut asked, &tune, odd.clone(), 0, 0);
+    ask(&mut asked, Call::section(&tune, odd.clone(), 0, 0));
     odd[9] = 1;
-    ask_section(&mut asked, &tune, odd, 3, 1);
-    (false, asked)
+    ask(&mut asked, Call::section(&tune, odd, 3, 1));
+    asked
 }
 
 /// Sections of one row to three, each from an odd state, which half of them say in the usual way.
@@ -122,8 +108,7 @@ fn visits(seed: u64) -> Vec<Group> {
         let usual = generate::odd_state(random, &tune).encode();
         let state = if random.chance(50) { bytes } else { usual };
         let (n, spare) = (random.weighted(&[(5, 1), (2, 2), (1, 3), (1, 45)]), random.one(&SPARE));
-        let section = Call::section(&tune, state, n, spare);
-        (false, vec![Case::of(section)])
+        vec![Case::of(Call::section(&tune, state, n, spare))]
     };
     (0..VISITS).map(visit).collect()
 }
@@ -133,5 +118,5 @@ fn refused() -> impl Iterator<Item = Group> {
     let mut random = Random::new(REFUSED_SEED);
     let tune = generate::tune(&mut random, Purpose::Walks, REFUSED_SEED);
     let calls = (0..REFUSED).map(move |_| refused::call(&mut random, &tune));
-    calls.map(|call| (false, vec![Case::of(call)]))
+    calls.map(|call| vec![Case::of(call)])
 }

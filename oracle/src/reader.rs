@@ -58,15 +58,18 @@ impl Lists {
         self.pans() + if self.has_pans { CHANNELS } else { 0 }
     }
 
-    /// The places that the instrument pointers and the pattern pointers name, as far as the lists are there.
+    /// Where the instrument pointers stand, and where the pattern pointers do.
+    pub fn pointers(&self) -> [Vec<usize>; 2] {
+        let (instruments, patterns) = (self.instrument_list(), self.pattern_list());
+        let lists = [instruments..patterns, patterns..self.pans()];
+        lists.map(|list| list.step_by(2).collect())
+    }
+
+    /// The places that they name, as far as the lists are there.
     pub fn places(&self, file: &[u8]) -> [Vec<usize>; 2] {
-        let lists = [
-            (self.instrument_list(), self.instruments),
-            (self.pattern_list(), self.patterns),
-        ];
-        lists.map(|(list, count)| {
-            let pointers = file.get(list..).unwrap_or_default().chunks_exact(2).take(count);
-            pointers.map(|two| 16 * usize::from(le16(two, 0))).collect()
+        self.pointers().map(|pointers| {
+            let there = pointers.into_iter().filter(|at| at + 2 <= file.len());
+            there.map(|at| 16 * usize::from(le16(file, at))).collect()
         })
     }
 }

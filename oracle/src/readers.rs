@@ -18,8 +18,8 @@ pub fn report(file: &[u8]) -> String {
             see_samples(&mut found, &tune, &header.instruments);
             see_opening(&mut found, &tune, &header);
         }
-        (Err(number), Ok(_)) => found.note("file", format!("refused, {number}"), "read"),
-        (Ok(_), Err(why)) => found.note("file", "read", why.0),
+        (Err(number), Ok(_)) => found.compare("file", &*format!("refused, {number}"), "read"),
+        (Ok(_), Err(why)) => found.compare("file", "read", &*why.0),
         (Err(_), Err(_)) => {}
     }
     let count = found.0.len();
@@ -30,15 +30,11 @@ pub fn report(file: &[u8]) -> String {
 struct Differences(Vec<String>);
 
 impl Differences {
-    fn note(&mut self, what: impl AsRef<str>, law: impl Debug, original: impl Debug) {
-        let what = what.as_ref();
-        self.0
-            .push(format!("readers: {what}: 01 {law:?}, original {original:?}\n"));
-    }
-
     fn compare<T: Debug + PartialEq>(&mut self, what: impl AsRef<str>, law: T, original: T) {
+        let what = what.as_ref();
         if law != original {
-            self.note(what, law, original);
+            let line = format!("readers: {what}: 01 {law:?}, original {original:?}\n");
+            self.0.push(line);
         }
     }
 }

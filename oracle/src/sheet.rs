@@ -63,11 +63,8 @@ pub fn hold(words: &[&str]) -> Result<String, String> {
         _ => return Err("usage: oracle/run sheets PROGRAM [SEED TUNES]".to_string()),
     };
     let (mut files, mut rows, mut endings) = (0, 0, BTreeMap::<String, usize>::new());
-    for (i, file) in plan::files()
-        .into_iter()
-        .chain((seed..seed + tunes).map(fresh))
-        .enumerate()
-    {
+    let fresh = (seed..seed + tunes).map(fresh);
+    for (i, file) in plan::files().into_iter().chain(fresh).enumerate() {
         let (ours, original) = (printed(Path::new(program), file.clone())?, sheet(&file));
         if ours != original {
             return Err(format!("file {i}: {program} says\n{ours}not\n{original}"));

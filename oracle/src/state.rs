@@ -63,13 +63,8 @@ impl State {
         layout.bytes([&mut self.speed, &mut self.bpm, &mut self.global_volume]);
         layout.flags([&mut self.amiga_limits, &mut self.fast_slides]);
         layout.next([0; 1]);
-        lay_rest(
-            layout,
-            &mut self.rate,
-            &mut self.start,
-            &mut self.channels,
-            &mut self.kept,
-        );
+        let (channels, kept) = (&mut self.channels, &mut self.kept);
+        lay_rest(layout, &mut self.rate, &mut self.start, channels, kept);
     }
 }
 

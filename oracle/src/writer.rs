@@ -18,21 +18,18 @@ pub fn write(tune: &Tune) -> Vec<u8> {
         file[lists.pans() + i] = 0x20 | ch.pan;
     }
     draft.set_levels([opening.speed, opening.tempo, opening.global_volume]);
-    for (i, sample) in tune.samples.chunks_exact(SAMPLE_BYTES).enumerate() {
-        draft.put_at(lists.instrument_list() + 2 * i, &instrument(sample));
+    let [instruments, patterns] = lists.pointers();
+    for (pointer, sample) in instruments.into_iter().zip(tune.samples.chunks_exact(SAMPLE_BYTES)) {
+        draft.put(pointer, &instrument(sample));
     }
-    for i in 0..lists.patterns {
-        draft.put_at(lists.pattern_list() + 2 * i, &pattern(tune, i));
+    for (number, pointer) in patterns.into_iter().enumerate() {
+        draft.put(pointer, &pattern(tune, number));
     }
     draft.bytes
 }
 
 fn setting(ch: &ChannelOpening) -> u8 {
-    let kind = match (ch.adlib, ch.right_bank) {
-        (true, _) => 16,
-        (false, true) => 8,
-        (false, false) => 0,
-    };
+    let kind = if ch.adlib { 16 } else { 8 * u8::from(ch.right_bank) };
     kind + 128 * u8::from(ch.muted)
 }
 
@@ -53,14 +50,12 @@ fn pattern(tune: &Tune, number: usize) -> Vec<u8> {
     let mut out = vec![0; 2];
     for row in 0..ROWS {
         for (channel, cell) in tune.row(number, row).enumerate() {
-            let fields = [(0..2, 0x20), (2..3, 0x40), (3..5, 0x80)];
-            let named = fields
-                .into_iter()
-                .filter(|(part, _)| cell[part.clone()] != EMPTY_CELL[part.clone()]);
-            let (parts, bits): (Vec<&[u8]>, Vec<u8>) = named.map(|(part, bit)| (&cell[part], bit)).unzip();
-            if !parts.is_empty() {
-                out.push(channel as u8 + bits.iter().sum::<u8>());
-                out.extend(parts.concat());
+            let says = |&(_, from, to): &(u8, usize, usize)| cell[from..to] != EMPTY_CELL[from..to];
+            let fields = [(0x20, 0, 2), (0x40, 2, 3), (0x80, 3, 5)].into_iter().filter(says);
+            let what: u8 = fields.clone().map(|(bit, ..)| bit).sum();
+            if what != 0 {
+                out.push(channel as u8 + what);
+                out.extend(fields.flat_map(|(_, from, to)| &cell[from..to]));
             }
         }
         out.push(0);

@@ -12,7 +12,8 @@ const KINDS: [u8; 11] = [0, 1, 2, 3, 4, 5, 6, 7, 8, 9, 255];
 const LEAST_FILES: usize = 600;
 const MOST_FILE_BYTES: usize = 8_192;
 
-/// A file with its lists, the places that its pointers name, what Read is lent, and the rules that are broken.
+/// A file with its lists, the places that its pointers name, what Read is lent, the rules that are broken, and whether
+/// there is none.
 struct File<'a> {
     bytes: &'a [u8],
     lists: Lists,
@@ -20,12 +21,7 @@ struct File<'a> {
     patterns: Vec<usize>,
     lent: Lent,
     broken: Vec<u8>,
-}
-
-impl File<'_> {
-    fn is_good(&self) -> bool {
-        self.broken.is_empty()
-    }
+    good: bool,
 }
 
 pub fn needs(tally: &mut Tally) {
@@ -40,11 +36,8 @@ pub fn needs(tally: &mut Tally) {
         tally.family(&format!("entry of flags {flags:#04x} cut behind {{}}"), there);
     }
     tally.pairs("lent {} one {}", ["orders", "samples", "cells"], &["short", "long"]);
-    tally.pairs(
-        "setting {} with {}",
-        0..=255,
-        &["its own pan", "bit 5 clear", "a given pan"],
-    );
+    let pans = ["its own pan", "bit 5 clear", "a given pan"];
+    tally.pairs("setting {} with {}", 0..=255, &pans);
     tally.pairs("channel twice, flags {} then {}", 0..8, &[0, 1, 2, 3, 4, 5, 6, 7]);
     let places = ["pointer 0", "in the header", "in the lists", "from byte 4,096 up"];
     tally.pairs("{} {}", ["instrument", "pattern"], &places);
@@ -78,6 +71,7 @@ pub fn see(tally: &mut Tally, case: &Case) -> Result<(), String> {
             instruments,
             patterns,
             lent,
+            good: broken.is_empty(),
             broken,
         };
         see_file(tally, &file);
@@ -116,7 +110,7 @@ fn see_file(tally: &mut Tally, file: &File) {
         see_instrument_ends(tally, file);
         see_pattern_ends(tally, file);
     }
-    if file.is_good() {
+    if file.good {
         see_good(tally, file);
     }
 }
@@ -124,7 +118,7 @@ fn see_file(tally: &mut Tally, file: &File) {
 /// Where the lists end, and the levels.
 fn see_head(tally: &mut Tally, file: &File) {
     let (length, end, pans) = (file.bytes.len(), file.lists.end(), file.lists.has_pans);
-    let (good, alone) = (file.is_good(), file.broken == [5]);
+    let (good, alone) = (file.good, file.broken == [5]);
     let ends = end == length && good;
     let short = end == length + 1 && file.broken.first() == Some(&4);
     let [volume, speed, tempo] = [48, 49, 50].map(|at| file.bytes[at]);
@@ -158,7 +152,7 @@ fn see_instrument_ends(tally: &mut Tally, file: &File) {
     for &at in &file.instruments {
         let (end, wrapped) = (at + INSTRUMENT_BYTES, at & 0xFFFF);
         let held = at > 0xFFFF && wrapped != 0 && !reader::is_cut_instrument(file.bytes, wrapped);
-        let ends = end == length && file.is_good();
+        let ends = end == length && file.good;
         if end == length + 1 {
             tally.among("instrument of type {} one byte past", KINDS, file.bytes[at]);
         }
@@ -173,8 +167,7 @@ fn see_instrument_ends(tally: &mut Tally, file: &File) {
 fn see_pattern_ends(tally: &mut Tally, file: &File) {
     let is_cut = |&at: &usize| reader::is_cut_pattern(file.bytes, at);
     for &at in file.patterns.iter().filter(|&&at| at != 0) {
-        let wrapped = at & 0xFFFF;
-        let held = at > 0xFFFF && wrapped != 0 && !is_cut(&wrapped);
+        let held = at > 0xFFFF && at & 0xFFFF != 0 && !is_cut(&(at & 0xFFFF));
         tally.anywhere([(held, "pattern pointer that 16 bits would cut to the file")]);
         see_pattern_end(tally, file, at);
     }
@@ -194,7 +187,7 @@ fn see_pattern_end(tally: &mut Tally, file: &File, at: usize) {
     }
     let first = end == End::Row(0) && length == at + 2;
     let behind = entries.last().is_some_and(|entry| end == End::Row(entry.row));
-    let ends = end == End::Whole(length) && file.is_good();
+    let ends = end == End::Whole(length) && file.good;
     tally.anywhere([
         (ends, "pattern ends with the file, good"),
         (end == End::Unread(0), "pattern past the file"),
@@ -302,11 +295,7 @@ fn see_switches(tally: &mut Tally, file: &[u8]) {
         tally.among("flag bit {} alone", 0..16, flags.trailing_zeros());
     }
     if !by_flag && !by_version {
-        tally.among(
-            "no fast slides, version {}",
-            ["0x1301", "0x12ff", "0x13"],
-            format!("{version:#x}"),
-        );
+        tally.among("no fast slides, version {}", [0x1301, 0x12FF, 0x13], version);
     }
     let [volume, speed, tempo] = [48, 49, 50].map(|at| file[at]);
     tally.anywhere([

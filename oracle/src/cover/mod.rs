@@ -17,38 +17,18 @@ use std::path::Path;
 const MOST_BYTES: u64 = 3_000_000;
 
 /// So many things are asked for: none may drop out because nothing looks for it.
-const ASKED: usize = 5_748;
+const ASKED: usize = 5_858;
 
-/// Where a thing must be seen.
-#[derive(Clone, Copy, PartialEq, Eq)]
-enum Needed {
-    Anywhere,
-    FromStates,
-    Both,
-}
-
-/// How often a thing was seen: from states, and along walks from Open; and where it must be.
-#[derive(Default)]
-struct Count {
-    seen: [usize; 2],
-    needed: Option<Needed>,
-}
-
-impl Count {
-    fn is_missing(&self) -> bool {
-        let [states, walks] = self.seen.map(|times| times > 0);
-        match self.needed {
-            None => false,
-            Some(Needed::Anywhere) => !states && !walks,
-            Some(Needed::FromStates) => !states,
-            Some(Needed::Both) => !states || !walks,
-        }
-    }
-}
+/// Where a thing must be seen, behind its name: anywhere, from states, or there and along walks from Open.
+type Needed = &'static [&'static str];
+const ANYWHERE: Needed = &[""];
+const FROM_STATES: Needed = &[", from states"];
+const BOTH: Needed = &[", from states", ", along walks"];
 
 #[derive(Default)]
 struct Tally {
-    things: BTreeMap<String, Count>,
+    /// How often each thing that is asked for was seen.
+    things: BTreeMap<String, usize>,
     walking: bool,
     /// The infos met with each command, from states.
     infos: BTreeMap<u8, BTreeSet<u8>>,
@@ -56,33 +36,34 @@ struct Tally {
     forms: BTreeSet<&'static str>,
     /// Before the name of a thing that a file has.
     prefix: &'static str,
-    /// How often something was new of what is asked for.
-    met: usize,
+    /// How often something was new.
+    news: usize,
 }
 
 impl Tally {
-    fn thing(&mut self, what: &str) -> &mut Count {
-        self.things.entry(format!("{}{what}", self.prefix)).or_default()
-    }
-
-    /// Counts a thing, whether it is asked for or not.
+    /// Counts a thing where it is asked for.
     fn note(&mut self, what: impl AsRef<str>) {
-        let walking = usize::from(self.walking);
-        let thing = self.thing(what.as_ref());
-        let first = thing.is_missing() && thing.seen[walking] == 0;
-        thing.seen[walking] += 1;
-        self.met += usize::from(first);
+        let what = format!("{}{}", self.prefix, what.as_ref());
+        for place in ["", BOTH[usize::from(self.walking)]] {
+            if let Some(times) = self.things.get_mut(&format!("{what}{place}")) {
+                *times += 1;
+                self.news += usize::from(*times == 1);
+            }
+        }
     }
 
     /// Asks for things alike: `{}` in their form stands for each of these.
     fn need<T: ToString>(&mut self, needed: Needed, form: &str, each: impl IntoIterator<Item = T>) {
         for one in each {
-            self.thing(&form.replace("{}", &one.to_string())).needed = Some(needed);
+            let what = form.replace("{}", &one.to_string());
+            for place in needed {
+                self.things.entry(format!("{}{what}{place}", self.prefix)).or_default();
+            }
         }
     }
 
     fn family<T: ToString>(&mut self, form: &str, each: impl IntoIterator<Item = T>) {
-        self.need(Needed::Anywhere, form, each);
+        self.need(ANYWHERE, form, each);
     }
 
     /// The same for each of these with each of those, the first of two `{}` being the former.
@@ -103,7 +84,7 @@ impl Tally {
     /// Asks for all of these, and counts those that hold.
     fn ask<const N: usize>(&mut self, needed: Needed, facts: [(bool, &str); N]) {
         for (holds, what) in facts {
-            self.thing(what).needed.get_or_insert(needed);
+            self.need(needed, "{}", [what]);
             if holds {
                 self.note(what);
             }
@@ -111,15 +92,15 @@ impl Tally {
     }
 
     fn anywhere<const N: usize>(&mut self, facts: [(bool, &str); N]) {
-        self.ask(Needed::Anywhere, facts);
+        self.ask(ANYWHERE, facts);
     }
 
     fn in_states<const N: usize>(&mut self, facts: [(bool, &str); N]) {
-        self.ask(Needed::FromStates, facts);
+        self.ask(FROM_STATES, facts);
     }
 
     fn both<const N: usize>(&mut self, facts: [(bool, &str); N]) {
-        self.ask(Needed::Both, facts);
+        self.ask(BOTH, facts);
     }
 }
 
@@ -134,35 +115,31 @@ pub fn report(dir: &Path) -> Result<String, String> {
     tally.prefix = "";
     files::see_sizes(&mut tally, &cases);
     tally.anywhere([(bytes <= MOST_BYTES, "a list of at most 3,000,000 bytes")]);
-    tally.things.retain(|_, count| count.needed.is_some());
-    let mut out = String::new();
-    for (what, Count { seen, .. }) in &tally.things {
-        out += &format!("cover: {what}: {} ({} along walks)\n", seen[0] + seen[1], seen[1]);
-    }
+    let line = |(what, times): (&String, &usize)| format!("cover: {what}: {times}\n");
+    let mut out: String = tally.things.iter().map(line).collect();
     let asked = tally.things.len();
-    tally.things.retain(|_, count| count.is_missing());
+    tally.things.retain(|_, times| *times == 0);
     if tally.things.is_empty() && asked == ASKED {
         return Ok(out + &format!("cover: {asked} things are in {} cases, {bytes} bytes\n", cases.len()));
     }
     let missing: Vec<String> = tally.things.into_keys().collect();
-    out += &format!(
-        "cover: {asked} things of {ASKED} were asked for; missing: {}",
-        missing.join("; ")
-    );
+    let missing = missing.join("; ");
+    out += &format!("cover: {asked} things of {ASKED} were asked for; missing: {missing}");
     Err(out)
 }
 
-/// The cases of those groups that are wanted anyway or show something which none before them did.
-pub fn telling(groups: impl Iterator<Item = (bool, Vec<Case>)>) -> Vec<Case> {
+/// The cases of those groups that show something which none before them did, and of the first so many.
+pub fn telling(groups: impl Iterator<Item = Vec<Case>>, first: usize) -> Vec<Case> {
     let (mut tally, mut sections) = (asked(), Sections::default());
-    let is_telling = |(wanted, cases): &(bool, Vec<Case>)| {
-        let before = tally.met;
+    let is_telling = |(i, cases): &(usize, Vec<Case>)| {
+        let before = tally.news;
         for case in cases {
             see(&mut tally, &mut sections, case).expect("the judge keeps the rules");
         }
-        *wanted || tally.met > before
+        *i < first || tally.news > before
     };
-    groups.filter(is_telling).flat_map(|(_, cases)| cases).collect()
+    let kept = groups.enumerate().filter(is_telling);
+    kept.flat_map(|(_, cases)| cases).collect()
 }
 
 /// A tally that asks for all that no look names.

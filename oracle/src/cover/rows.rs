@@ -1,6 +1,6 @@
 //! What rows meet on the path, what their cells do, and the pitch that they ask for.
 
-use super::{Needed, Tally};
+use super::{BOTH, FROM_STATES, Tally};
 use crate::factors;
 use crate::generate::pitch;
 use crate::pattern::Cell;
@@ -16,16 +16,16 @@ const INFOS: usize = 20;
 
 pub fn needs(tally: &mut Tally) {
     let nibbles = || (0..16).map(|nibble| format!("{nibble:X}"));
-    tally.need(Needed::Both, "{} with info 0", 'A'..='Z');
-    tally.need(Needed::Both, "{} with info", 'A'..='Z');
-    tally.need(Needed::Both, "S{}x fresh", nibbles());
-    tally.need(Needed::FromStates, "S00 recalls S{}x", nibbles());
-    tally.need(Needed::Both, "S00 recalls S{}x", ["B", "D", "E"]);
-    tally.need(Needed::Both, "command above {}", [26]);
+    tally.need(BOTH, "{} with info 0", 'A'..='Z');
+    tally.need(BOTH, "{} with info", 'A'..='Z');
+    tally.need(BOTH, "S{}x fresh", nibbles());
+    tally.need(FROM_STATES, "S00 recalls S{}x", nibbles());
+    tally.need(BOTH, "S00 recalls S{}x", ["B", "D", "E"]);
+    tally.need(BOTH, "command above {}", [26]);
     let commands = (0..=30).chain([255]);
-    tally.need(Needed::FromStates, "command {} with 20 infos and 0", commands);
+    tally.need(FROM_STATES, "command {} with 20 infos and 0", commands);
     let slides = ["FF", "F0", "0F", "Fy", "xF", "x0", "0y", "xy"];
-    tally.need(Needed::FromStates, "D{}", slides);
+    tally.need(FROM_STATES, "D{}", slides);
     tally.pairs("note byte {} at c5 speed {}", 0..=255, &C5_SPEEDS);
     let factors: Vec<usize> = (0..64).collect();
     let frequencies = || frequencies().map(|bits| format!("{bits:#x}"));
@@ -35,22 +35,13 @@ pub fn needs(tally: &mut Tally) {
 
 /// A cell of a row being entered, with its channel before and after.
 pub struct Seen<'a> {
-    before: &'a Channel,
-    after: &'a Channel,
-    cell: Cell,
-    struck: bool,
+    pub before: &'a Channel,
+    pub after: &'a Channel,
+    pub cell: Cell,
+    pub struck: bool,
 }
 
 impl Seen<'_> {
-    pub fn new<'a>(before: &'a Channel, after: &'a Channel, cell: Cell, struck: bool) -> Seen<'a> {
-        Seen {
-            before,
-            after,
-            cell,
-            struck,
-        }
-    }
-
     /// The info that acts, recalled where it is 0.
     fn info(&self) -> u8 {
         self.after.info
@@ -90,7 +81,7 @@ pub fn see(tally: &mut Tally, tune: &Tune, seen: &[Seen], [before, entered]: [&S
         if all {
             tally.note(format!("command {command} with {INFOS} infos and 0"));
         }
-        tally.met += usize::from(new && !all && (command <= 30 || command == 255));
+        tally.news += usize::from(new && !all && (command <= 30 || command == 255));
     }
 }
 

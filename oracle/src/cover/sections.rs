@@ -104,7 +104,12 @@ fn see_row(tally: &mut Tally, tune: &Tune, [before, entered]: [&State; 2], recor
     tally.both([(skipped, "0xFE skipped"), (held, "row held"), (!held, "row not held")]);
     let (cells, strikes) = (tune.row(record[1].into(), record[2].into()), le32(record, 16));
     let channels = before.channels.iter().zip(&entered.channels).zip(cells).enumerate();
-    let seen = |(i, ((before, after), bytes))| Seen::new(before, after, cell(bytes), strikes >> i & 1 == 1);
+    let seen = |(i, ((before, after), bytes))| Seen {
+        before,
+        after,
+        cell: cell(bytes),
+        struck: strikes >> i & 1 == 1,
+    };
     if !held {
         rows::see(tally, tune, &channels.map(seen).collect::<Vec<_>>(), [before, entered]);
     }

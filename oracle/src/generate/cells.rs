@@ -22,22 +22,15 @@ fn row(random: &mut Random, style: &Style, at: usize) -> Vec<u8> {
             cell.copy_from_slice(&free_cell(random, style));
         }
     }
-    let meeting = if random.chance(style.path) {
-        random.between(1, 4)
-    } else {
-        0
-    };
-    for _ in 0..meeting {
+    if !random.chance(style.path) {
+        return out;
+    }
+    for _ in 0..random.between(1, 4) {
         let command = command_of(random.one(b"AABCSSSSSST"));
-        let info = match command {
-            S_EXTENDED => special(random) * random.between(0, 1),
-            _ => info(random, command, style.orders),
-        };
         // S shares some channels, to find what it recalls. A walk's patterns jump late, lest it go round in a few rows.
-        let channel = if command == S_EXTENDED {
-            24 + random.index(8)
-        } else {
-            random.index(24)
+        let (info, channel) = match command {
+            S_EXTENDED => (special(random) * random.between(0, 1), 24 + random.index(8)),
+            _ => (info(random, command, style.orders), random.index(24)),
         };
         if !(style.walks && at < 20 && matches!(command, B_POS_JUMP | C_PAT_BREAK)) {
             out[channel * CELL + 3..][..2].copy_from_slice(&[command, info]);

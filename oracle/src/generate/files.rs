@@ -42,33 +42,17 @@ impl Draft {
         self.bytes[48..51].copy_from_slice(&[volume, speed, tempo]);
     }
 
-    /// Puts a part on the next paragraph.
-    fn put(&mut self, part: &[u8]) {
-        self.bytes.resize(16 * usize::from(self.paragraphs()), 0);
+    /// Puts a part on the next paragraph, to which the pointer at this place points.
+    pub fn put(&mut self, pointer: usize, part: &[u8]) {
+        let next = self.paragraphs();
+        self.set16(pointer, next);
+        self.bytes.resize(16 * usize::from(next), 0);
         self.bytes.extend(part);
-    }
-
-    /// Puts a part to which the pointer at this place points.
-    pub fn put_at(&mut self, pointer: usize, part: &[u8]) {
-        self.set16(pointer, self.paragraphs());
-        self.put(part);
     }
 
     /// The pointer of the first paragraph that does not begin in the file.
     fn paragraphs(&self) -> u16 {
         self.bytes.len().div_ceil(16) as u16
-    }
-
-    /// The places of the pointers to instruments, then of those to patterns.
-    fn pointers(&self) -> [Vec<usize>; 2] {
-        let Lists {
-            instruments, patterns, ..
-        } = self.lists;
-        let lists = [
-            (self.lists.instrument_list(), instruments),
-            (self.lists.pattern_list(), patterns),
-        ];
-        lists.map(|(list, count)| (0..count).map(|i| list + 2 * i).collect())
     }
 }
 
@@ -83,25 +67,14 @@ pub fn made(seed: u64) -> Call {
     if rules.contains(&4) {
         let (pans, end) = (draft.lists.pans(), draft.lists.end());
         let any = HEADER_BYTES + random.index(end - HEADER_BYTES + 1);
-        draft
-            .bytes
-            .truncate(random.one(&[end - 1, end - 1, pans - 1, end, any]));
+        let length = random.one(&[end - 1, end - 1, pans - 1, end, any]);
+        draft.bytes.truncate(length);
     } else {
         put_parts(random, &mut draft);
     }
     rules.iter().for_each(|&rule| break_rule(random, &mut draft, rule));
-    let mut lent = usual_lent(&draft.bytes);
-    if rules.contains(&6) {
-        change_lent(random, &mut lent);
-    }
+    let lent = lent(random, &draft.bytes, rules.contains(&6));
     Call::read(&draft.bytes, rate, &lent)
-}
-
-/// As long as the file's counts need, as far as that goes; 0 without counts.
-fn usual_lent(file: &[u8]) -> Lent {
-    let count = |at| if file.len() >= at + 2 { le16(file, at).into() } else { 0 };
-    let needed = [count(32), count(34) * SAMPLE_BYTES, count(36) * PATTERN_BYTES];
-    std::array::from_fn(|table| needed[table].min(MOST_LENT[table]))
 }
 
 /// Noise wherever nothing is said, levels in range, flags and a version at their edges, all pointers 0.
@@ -148,7 +121,7 @@ fn put_parts(random: &mut Random, draft: &mut Draft) {
     } else if random.chance(5) && draft.lists.instruments < 9 {
         draft.bytes.extend(noise(random, 4_096));
     }
-    let [instruments, patterns] = draft.pointers();
+    let [instruments, patterns] = draft.lists.pointers();
     share(random, draft, &instruments, any_instrument);
     share(random, draft, &patterns, pattern);
     let all = [instruments, patterns].concat();
@@ -164,7 +137,7 @@ fn share(random: &mut Random, draft: &mut Draft, pointers: &[usize], part: fn(&m
     let own = if pointers.len() > 9 { 8 } else { 80 };
     for (i, &at) in pointers.iter().enumerate() {
         if i == 0 || random.chance(own) {
-            draft.put_at(at, &part(random));
+            draft.put(at, &part(random));
         } else {
             let shared = le16(&draft.bytes, random.one(&pointers[..i]));
             draft.set16(at, random.weighted(&[(3, shared), (1, 0)]));
@@ -183,12 +156,12 @@ fn scatter(random: &mut Random, draft: &mut Draft, pointers: &[usize]) {
 
 /// A last part that is whole or cut, for any pointer.
 fn put_last(random: &mut Random, draft: &mut Draft) {
-    let [instruments, patterns] = draft.pointers();
+    let [instruments, patterns] = draft.lists.pointers();
     if patterns.is_empty() || !instruments.is_empty() && random.chance(40) {
         let mut part = any_instrument(random);
         let short = random.one(&[0, 1, 1, 1, 2, 16, 48, 79, INSTRUMENT_BYTES]);
         part.truncate(INSTRUMENT_BYTES - short);
-        return draft.put_at(random.one(&instruments), &part);
+        return draft.put(random.one(&instruments), &part);
     }
     // One entry in the first row or the last.
     let what = random.one(&FLAGS) | random.between(1, 31);
@@ -199,16 +172,14 @@ fn put_last(random: &mut Random, draft: &mut Draft) {
     let whole = part.len() + ROWS - rows;
     part.resize(whole, 0);
     part.truncate(random.weighted(&[(1, any), (1, whole), (4, within)]));
-    draft.put_at(random.one(&patterns), &part);
+    draft.put(random.one(&patterns), &part);
 }
 
 /// Breaks a rule; 4 and 6 are broken elsewhere.
 fn break_rule(random: &mut Random, draft: &mut Draft, rule: u8) {
     let length = draft.bytes.len();
     match rule {
-        1 => draft
-            .bytes
-            .truncate(random.one(&[HEADER_BYTES - 1, 51, 0, 1, HEADER_BYTES])),
+        1 => draft.bytes.truncate(random.one(&[0, 1, 51, 95, 96])),
         2 if length >= 48 => draft.bytes[44 + random.index(4)] ^= 1 << random.index(8),
         3 if length >= 48 && random.chance(20) => draft.set16(random.one(&[32, 34, 36]), 0xFFFF),
         5 if length >= 51 => {
@@ -221,7 +192,7 @@ fn break_rule(random: &mut Random, draft: &mut Draft, rule: u8) {
 
 /// A pointer past the file: just behind it, or far; cut to 16 bits it may name a whole part.
 fn point_past(random: &mut Random, draft: &mut Draft, rule: u8) {
-    let pointers = &draft.pointers()[usize::from(rule - 7)];
+    let pointers = &draft.lists.pointers()[usize::from(rule - 7)];
     let (Some(first), Some(last)) = (pointers.first(), pointers.last()) else {
         return;
     };
@@ -236,16 +207,16 @@ fn point_past(random: &mut Random, draft: &mut Draft, rule: u8) {
     }
 }
 
-/// One table of another length, often by one byte.
-fn change_lent(random: &mut Random, lent: &mut Lent) {
-    let table = random.index(3);
-    let by = random.one(&[1, 1, 1, 20, 10_240]);
-    let longer = lent[table] + by <= MOST_LENT[table] && random.chance(50);
-    lent[table] = if longer {
-        lent[table] + by
-    } else {
-        lent[table].saturating_sub(by)
-    };
+/// As long as the file's counts need, as far as that goes; to break rule 6, one table of another length.
+fn lent(random: &mut Random, file: &[u8], broken: bool) -> Lent {
+    let needs = Lists::of(file).map(|lists| lists.needs()).unwrap_or_default();
+    let mut lent: Lent = std::array::from_fn(|table| needs[table].min(MOST_LENT[table]));
+    if broken {
+        let length = &mut lent[random.index(3)];
+        let by = random.one(&[1, 1, 1, 20]);
+        *length = random.one(&[*length + by, length.saturating_sub(by)]);
+    }
+    lent
 }
 
 /// 80 bytes of noise with a type; the numbers are small in half of them.

@@ -60,26 +60,22 @@ pub fn tune(placed: &[Placed]) -> Tune {
     let patterns = placed.len().div_ceil(CHANNELS * ROWS);
     cells.extend(EMPTY_CELL.repeat(patterns * PATTERN_BYTES / CELL - placed.len()));
     assert!(samples.len() <= 99, "a tune has no more samples");
-    tune_of((0..patterns as u8).collect(), samples.concat(), cells)
+    Tune {
+        orders: (0..patterns as u8).collect(),
+        samples: samples.concat(),
+        cells,
+        opening: opening(),
+    }
 }
 
 /// A tune whose row r has the fine slide r in each channel: E from 0xE0 up, then F.
 pub fn slides() -> Tune {
     let row = |row: u8| {
         let command = if row < 32 { E_SLIDE_DOWN } else { F_SLIDE_UP };
-        [255, 0, 255, command, 0xE0 + row % 32].repeat(CHANNELS)
+        let cell = [255, 0, 255, command, 0xE0 + row % 32];
+        [placed(cell, false, [0; 4]); CHANNELS]
     };
-    tune_of(vec![0], Vec::new(), (0..ROWS as u8).flat_map(row).collect())
-}
-
-fn tune_of(orders: Vec<u8>, samples: Vec<u8>, cells: Vec<u8>) -> Tune {
-    let opening = opening();
-    Tune {
-        orders,
-        samples,
-        cells,
-        opening,
-    }
+    tune((0..ROWS as u8).map(row).collect::<Vec<_>>().as_flattened())
 }
 
 pub fn opening() -> Opening {

@@ -1,5 +1,6 @@
 //! Calls that may break any of the rules 9 to 13 and 255, alone or together.
 
+use super::tunes::opening;
 use super::{noise, odd_bytes};
 use crate::calls::{Call, Function};
 use crate::list::ROOMS;
@@ -18,7 +19,7 @@ pub fn call(random: &mut Random, tune: &Tune) -> Call {
     let mut call = match random.below(10) {
         0 => Call::measure(WORKED),
         1 => Call::read(WORKED, random.number() as u32, &LENT),
-        2..5 => open(random, tune.clone()),
+        2..5 => open(random, tune),
         5..8 => section(random, tune),
         _ => record(random),
     };
@@ -32,26 +33,20 @@ pub fn call(random: &mut Random, tune: &Tune) -> Call {
     call
 }
 
-/// Open with values that may break rule 10, flags above 1 and bytes that are not read.
-fn open(random: &mut Random, mut tune: Tune) -> Call {
-    let opening = &mut tune.opening;
-    match random.below(12) {
-        0 => opening.speed = 0,
-        1 => opening.tempo = random.between(0, 31),
-        2 => opening.global_volume = random.between(65, 255),
-        3 => opening.channels[random.index(32)].pan = random.between(16, 255),
-        4 => opening.rate = 0,
-        5 => opening.rate = 100_001 + random.below(1 << 31) as u32,
+/// Open with values that may break rule 10.
+fn open(random: &mut Random, tune: &Tune) -> Call {
+    let mut call = Call::open(tune);
+    let mut opening = opening(random);
+    match random.below(10) {
+        0 => opening[0] = 0,
+        1 => opening[1] = random.between(0, 31),
+        2 => opening[2] = random.between(65, 255),
+        3 => opening[16 + 4 * random.index(32)] = random.between(16, 255),
+        4 => opening[8..12].fill(0),
+        5 => opening[8..12].copy_from_slice(&random.one(&[100_001, u32::MAX]).to_le_bytes()),
         _ => {}
     }
-    let mut call = Call::open(&tune);
-    for at in 3..if random.chance(30) { OPENING_BYTES } else { 3 } {
-        let byte = &mut call.slots[3][at];
-        let flag = at < 5 || at >= 16 && at % 4 != 0;
-        if matches!(at, 5..8 | 12..16) || flag && *byte != 0 {
-            *byte = random.between(1, 255);
-        }
-    }
+    call.slots[3] = opening;
     call
 }
 

@@ -1,7 +1,8 @@
 //! Odd states: bytes that 01's rule 11 accepts, most of them any, with nothing waiting and not ended.
 
 use super::cells::special;
-use super::noise;
+use super::tunes::rate;
+use super::{noise, unset};
 use crate::random::Random;
 use crate::rules::MOST_START;
 use crate::state::{CHANNEL_BYTES, HEAD_BYTES, KEYED, NO_VOICE, RELEASED, STATE_BYTES, State};
@@ -16,31 +17,21 @@ pub fn odd_bytes(random: &mut Random, tune: &Tune) -> Vec<u8> {
     let mut out = noise(random, STATE_BYTES);
     let (head, channels) = out.split_at_mut(HEAD_BYTES);
     put_path(random, tune, head);
-    put_card(random, head);
+    let start = random.below(MOST_START);
+    let start = random.weighted(&[(2, 0), (4, start), (1, MOST_START), (1, MOST_START - 1)]);
+    head[16..20].copy_from_slice(&rate(random).to_le_bytes());
+    head[24..32].copy_from_slice(&start.to_le_bytes());
     for part in channels.chunks_exact_mut(CHANNEL_BYTES) {
         put_channel(random, tune.sample_count() as u8, part);
     }
     out
 }
 
-/// These flags are 0, each in so many of a hundred.
-fn unset(random: &mut Random, part: &mut [u8], flags: &[(usize, u64)]) {
-    for &(at, percent) in flags {
-        if random.chance(percent) {
-            part[at] = 0;
-        }
-    }
-}
-
 /// The place, the loop, the hold, the levels, the switches and the S infos.
 fn put_path(random: &mut Random, tune: &Tune, head: &mut [u8]) {
     let order = order(random, tune, head[0]);
-    let skipped = tune
-        .orders
-        .iter()
-        .skip(order.into())
-        .take_while(|&&named| named == 0xFE);
-    let entered = order.saturating_add(skipped.count() as u8);
+    let orders = tune.orders.iter().skip(order.into());
+    let entered = order.saturating_add(orders.take_while(|&&named| named == 0xFE).count() as u8);
     head[0] = order;
     head[1] = random.weighted(&[(6, head[1] % 64), (1, 63)]);
     head[3] = random.weighted(&[(6, entered), (1, order), (1, entered.saturating_sub(1)), (2, head[3])]);
@@ -64,16 +55,6 @@ fn order(random: &mut Random, tune: &Tune, any: u8) -> u8 {
     let named: Vec<usize> = (0..length).filter(|&at| tune.pattern_at(at).is_some()).collect();
     let (named, place) = (random.one(&named), random.index(length));
     random.weighted(&[(12, named), (5, place), (1, length), (1, any.into())]) as u8
-}
-
-/// The rate and the start.
-fn put_card(random: &mut Random, head: &mut [u8]) {
-    let rate = 1 + random.below(100_000) as u32;
-    let rate = random.weighted(&[(3, 60_000), (3, rate), (1, 1), (1, 100_000)]);
-    let start = random.below(MOST_START);
-    let start = random.weighted(&[(2, 0), (4, start), (1, MOST_START), (1, MOST_START - 1)]);
-    head[16..20].copy_from_slice(&rate.to_le_bytes());
-    head[24..32].copy_from_slice(&start.to_le_bytes());
 }
 
 fn put_channel(random: &mut Random, samples: u8, part: &mut [u8]) {

@@ -1,8 +1,8 @@
 //! Tunes: orders, samples and opening values, and a tune's leanings.
 
-use super::cells;
+use super::{cells, noise, unset};
 use crate::random::Random;
-use crate::tune::{ChannelOpening, Opening, SAMPLE_BYTES, Tune};
+use crate::tune::{OPENING_BYTES, Opening, SAMPLE_BYTES, Tune};
 
 /// What a tune is made for.
 #[derive(Clone, Copy, PartialEq, Eq)]
@@ -23,8 +23,6 @@ pub struct Style {
     pub path: u64,
     /// Of a hundred free cells drawn as B, C, SB or SE, those that stay it.
     pub free: u64,
-    /// Orders in a hundred that are skipped.
-    skipped: u64,
 }
 
 /// The tune of a seed; `random` is that seed's, so that states can follow.
@@ -34,18 +32,14 @@ pub fn tune(random: &mut Random, purpose: Purpose, seed: u64) -> Tune {
         orders: orders(random, &style),
         samples: (0..style.samples).flat_map(|_| sample(random)).collect(),
         cells: cells::cells(random, &style),
-        opening: opening(random),
+        opening: Opening::decode(&opening(random)),
     }
 }
 
 /// A third of the tunes is made for walks.
 pub fn any_tune(random: &mut Random, seed: u64) -> Tune {
-    let purpose = if seed.is_multiple_of(3) {
-        Purpose::Walks
-    } else {
-        Purpose::Visits
-    };
-    tune(random, purpose, seed)
+    let purposes = [Purpose::Walks, Purpose::Visits, Purpose::Visits];
+    tune(random, purposes[seed as usize % 3], seed)
 }
 
 /// The seed's remainder by 8 sees to the extreme sizes.
@@ -68,23 +62,22 @@ fn style(random: &mut Random, purpose: Purpose, seed: u64) -> Style {
         },
         path: random.one(if walks { &[8, 16, 24] } else { &[10, 50, 100] }),
         free: random.one(if walks { &[0, 0, 1] } else { &[2, 15, 100] }),
-        skipped: random.one(if walks { &[20, 20, 20] } else { &[10, 20, 90] }),
     }
 }
 
 /// The first names a pattern; the others name one too, are skipped, or are marks and missing patterns, which stand at a
 /// walk's end alone.
 fn orders(random: &mut Random, style: &Style) -> Vec<u8> {
-    let missing = style.patterns as u8;
+    let (missing, skipped) = (style.patterns as u8, random.one(&[10, 20, 60]));
     let mut out = vec![random.index(style.patterns) as u8];
     while out.len() < style.orders {
         let (there, strange) = (random.index(style.patterns) as u8, random.one(&[0xFF, missing, 0xFD]));
-        let order = if style.walks {
+        let order = if style.walks || random.chance(85) {
             there
         } else {
-            random.weighted(&[(6, there), (1, strange)])
+            strange
         };
-        out.push(if random.chance(style.skipped) { 0xFE } else { order });
+        out.push(if random.chance(skipped) { 0xFE } else { order });
     }
     if style.walks && random.chance(70) {
         out.extend([0xFE, random.one(&[0xFF, missing, 99, 0xFD]), 0]);
@@ -131,27 +124,22 @@ fn c5_speed(random: &mut Random) -> u32 {
     random.weighted(&[&often[..], &rare].concat()) as u32
 }
 
-fn opening(random: &mut Random) -> Opening {
-    let (speed, tempo) = (random.between(1, 255), random.between(32, 255));
-    let volume = random.between(0, 64);
-    let rate = 1 + random.below(100_000) as u32;
-    Opening {
-        speed: random.weighted(&[(4, 6), (2, 3), (2, speed), (1, 1), (1, 255)]),
-        tempo: random.weighted(&[(4, 125), (3, tempo), (1, 32), (1, 255)]),
-        global_volume: random.weighted(&[(3, 64), (2, volume), (1, 0)]),
-        amiga_limits: random.chance(40),
-        fast_slides: random.chance(50),
-        rate: random.weighted(&[(4, 60_000), (3, rate), (1, 1), (1, 100_000)]),
-        channels: std::array::from_fn(|_| channel(random)),
+/// Opening values said in an unusual way: flags above 1, noise in bytes that are not read.
+pub fn opening(random: &mut Random) -> Vec<u8> {
+    let mut out = noise(random, OPENING_BYTES);
+    out[0] = random.weighted(&[(4, 6), (2, 3), (2, out[0].max(1)), (1, 1), (1, 255)]);
+    out[1] = random.weighted(&[(4, 125), (3, out[1].max(32)), (1, 32), (1, 255)]);
+    out[2] = random.weighted(&[(3, 64), (2, out[2] % 65), (1, 0)]);
+    unset(random, &mut out, &[(3, 60), (4, 50)]);
+    out[8..12].copy_from_slice(&rate(random).to_le_bytes());
+    for part in out[16..].chunks_exact_mut(4) {
+        part[0] = random.weighted(&[(2, 3), (2, 12), (1, 8), (3, part[0] % 16)]);
+        unset(random, part, &[(1, 80), (2, 60), (3, 70)]);
     }
+    out
 }
 
-fn channel(random: &mut Random) -> ChannelOpening {
-    let pan = random.between(0, 15);
-    ChannelOpening {
-        pan: random.weighted(&[(2, 3), (2, 12), (1, 8), (3, pan)]),
-        muted: random.chance(20),
-        right_bank: random.chance(40),
-        adlib: random.chance(30),
-    }
+pub fn rate(random: &mut Random) -> u32 {
+    let any = 1 + random.below(100_000) as u32;
+    random.weighted(&[(4, 60_000), (3, any), (1, 1), (1, 100_000)])
 }

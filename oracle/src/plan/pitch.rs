@@ -1,6 +1,6 @@
 //! Pitch: chosen notes, c5 speeds, sample offsets, Amiga limits, fine slides and finetunes, in rows of 32 channels.
 
-use super::{Group, ask, ask_open, ask_section};
+use super::{Group, ask};
 use crate::calls::Call;
 use crate::generate::pitch::{self, Placed};
 use crate::list::Case;
@@ -34,15 +34,15 @@ pub fn groups() -> impl Iterator<Item = Group> {
         let placed: Vec<Placed> = (0..CHANNELS).map(|_| pitch::offset(random)).collect();
         play(&placed, 1)
     });
-    chosen.into_iter().chain(offsets).map(|cases| (false, cases))
+    chosen.into_iter().chain(offsets)
 }
 
 /// Cells with their samples, played from Open in sections of so many rows.
 fn play(placed: &[Placed], n: usize) -> Vec<Case> {
     let (tune, mut asked) = (pitch::tune(placed), Vec::new());
-    let mut state = ask_open(&mut asked, &tune);
+    let mut state = ask(&mut asked, Call::open(&tune));
     for _ in 0..placed.len().div_ceil(CHANNELS * n) {
-        state = ask_section(&mut asked, &tune, state, n as u32, 0);
+        state = ask(&mut asked, Call::section(&tune, state, n as u32, 0));
     }
     asked
 }
@@ -66,14 +66,13 @@ fn last_notes() -> Vec<Case> {
         cell: [255, 0, 255, G_TONE_PORTA, 1],
         ..pitch::note(0, c5)
     });
-    let (tune, mut asked) = (pitch::tune(&bare.repeat(2)), Vec::new());
+    let tune = pitch::tune(&bare.repeat(2));
     let mut state = open(&tune);
     for (i, channel) in state.channels.iter_mut().enumerate().take(12) {
         channel.instrument = 1 + i as u8 % 6;
         channel.last_note = if i < 6 { 0xFE } else { 0xFF };
     }
-    ask(&mut asked, Call::section(&tune, state.encode(), 1, 0));
-    asked
+    vec![Case::of(Call::section(&tune, state.encode(), 1, 0))]
 }
 
 /// Each of the 64 fine slides on 32 frequencies; those of no step again within the Amiga limits.

@@ -6,9 +6,8 @@ use std::sync::LazyLock;
 
 /// The factors' bits, in the order of factors.txt.
 static TABLE: LazyLock<Vec<u32>> = LazyLock::new(|| {
-    let lines = include_str!("../../factors.txt")
-        .lines()
-        .filter(|line| !line.starts_with('#'));
+    let lines = include_str!("../../factors.txt").lines();
+    let lines = lines.filter(|line| !line.starts_with('#'));
     let bits = |line: &str| u32::from_str_radix(line.split(' ').nth(2).expect(line), 16).expect(line);
     lines.map(bits).collect()
 });
