@@ -96,10 +96,10 @@ fn header(random: &mut Random, broken: bool) -> Draft {
 
 /// The counts; where rule 3 is to be broken, one too large or 0, or the most that it takes.
 fn lists(random: &mut Random, broken: bool) -> Lists {
-    let (few, any) = (random.index(5), random.index(100));
-    let orders = 1 + random.weighted(&[(6, few), (1, any), (1, 254)]);
+    let (any, [some, few, others]) = (random.index(100), [(); 3].map(|_| random.index(5)));
+    let orders = 1 + random.weighted(&[(6, some), (1, any), (1, 254)]);
     let instruments = random.weighted(&[(12, few), (1, any), (1, 99)]);
-    let patterns = random.weighted(&[(8, few), (1, 5), (1, 6)]);
+    let patterns = random.weighted(&[(8, others), (1, 5), (1, 6)]);
     let (orders, instruments, patterns) = match random.below(5) {
         _ if !broken => (orders, instruments, patterns),
         0 => (0, instruments, patterns),
@@ -200,10 +200,8 @@ fn point_past(random: &mut Random, draft: &mut Draft, rule: u8) {
     let at = random.one(&[*first, *last, any]);
     if at + 2 <= draft.bytes.len() {
         let (near, own) = (draft.paragraphs(), le16(&draft.bytes, at) % 0x1000);
-        draft.set16(
-            at,
-            random.one(&[near, near + 1, 0x1001, 0xFFFF, 0x1000 + own, 0xF000 + own]),
-        );
+        let past = random.one(&[near, near + 1, 0x1001, 0xFFFF, 0x1000 + own, 0xF000 + own]);
+        draft.set16(at, past);
     }
 }
 

@@ -56,7 +56,7 @@ fn section(random: &mut Random, tune: &Tune) -> Call {
     break_state(random, &mut state);
     let (n, far) = (random.below(4) as u32, 65_536 + random.below(1 << 31) as u32);
     let mut call = Call::section(tune, state, n, random.index(2));
-    call.number = random.weighted(&[(5, n), (1, far)]);
+    call.number = random.weighted(&[(4, n), (1, n + 1), (1, far)]);
     call
 }
 
