@@ -1,8 +1,10 @@
 -- Laws of the refusals in order. Assumes nothing.
 use mathlib.Core.Path.{_≡_, refl, sym, _∙_}
 use mathlib.Core.Bool.{Bool, true, false}
-use Prim.Native.Nat.{ℕ, zero, suc}
+use Prim.Native.Nat.{ℕ, zero, suc, _≤_}
 use native.Mathlib.Omega.{arith}
+use borrow.Author.Tests.{eqb-false}
+use lib.Dec.{eqb}
 use Rattle.laws.specs.Refusals.{refuse, orElse}
 
 -- a first refusal is the answer
@@ -26,6 +28,10 @@ sound (suc a) b e = absurd (omega arith)
 pub kept : (n : ℕ) (broken : Bool) → refuse (suc n) broken ≡ 0 → broken ≡ false
 kept n true e = absurd (omega arith)
 kept n false e = refl
+
+-- a number that is not refused for being 0
+pub not-zero : (n : ℕ) → eqb n 0 ≡ false → 1 ≤ n
+not-zero n e = let h = eqb-false n 0 e in omega arith
 
 -- a call f whose first rule's answer r is not 0, or is 0
 pub refused : (a b : ℕ) {f r : ℕ} → f ≡ orElse a b → r ≡ a → (r ≡ 0 → ⊥) → r ≡ f

@@ -96,11 +96,12 @@ unfoldable pub recordsAfter : Tables → List ℕ → ℕ → List ℕ → List 
 recordsAfter t state n output =
     pick (eqb (length state) stateSize) (outputAfter output (sectionOf t (stateOf state) n (length output))) output
 
--- what Strikes or Line says in one number
+-- what is given, 0 where nothing is
 abbrev given : Option ℕ → ℕ
 given none = 0
 given (some n) = n
 
+-- what Strikes or Line says in one number
 abbrev pub inOne : Said ℕ → ℕ
 inOne s = answerOf (s .number) (given (s .values))
 

@@ -4,18 +4,17 @@ use mathlib.Core.Path.{_≡_, refl, sym, ap, _∙_}
 use mathlib.Core.Bool.{true}
 use mathlib.Core.List.{List}
 use lib.ListN.{length}
-use Rattle.laws.proofs.Rules.{sound}
 use Rattle.tune.proofs.Sized.{sized}
 use Rattle.row_path.specs.Leave.{left}
 use Rattle.section.specs.Tables.{Tables, tablesRule}
 use Rattle.section.specs.Machines.{recordOf, voicesAfter}
-use Rattle.section.specs.Section.{stateRule, roomRule, sectionRule, gave, sectionOf, sectioned, outputAfter}
+use Rattle.section.specs.Section.{stateRule, sectionRule, gave, sectionOf, sectioned, outputAfter}
 use Rattle.section.specs.Walk.{voicesOf, stateWith, walk}
 use Rattle.section.specs.Typed.{Shaped, ByteTables}
 use Rattle.section.specs.declared.state.State.{State}
 use Rattle.section.specs.declared.state.Sectioned.{Sectioned}
 use Rattle.section.proofs.Answers.{refusal-is, given-answer}
-use Rattle.section.proofs.Ready.{rule-sound}
+use Rattle.section.proofs.Ready.{rule-sound, rules-kept}
 use Rattle.original.specs.New.{«Channel::default»}
 use Rattle.original.specs.Player.{«enter_row», «next_row»}
 use Rattle.original.specs.State.{PlayerState}
@@ -57,12 +56,6 @@ pub records-equal : (t : Tables) (n : ℕ) (s : State) → tablesRule t ≡ 0 �
     → readFor t s n ≡ record { records = walk t n s .records; start = walk t n s .state .path .clock .start }
 records-equal t n s nine eleven bytes shaped =
     reads-equal t (sized (t .orders) (t .cells) (t .samples) nine) bytes n s shaped (rule-sound s eleven shaped)
-
-rules-kept : (t : Tables) (s : State) (n room : ℕ) → sectionRule t s n room ≡ 0 → (tablesRule t ≡ 0) × (stateRule s ≡ 0)
-unfolding sectionRule
-rules-kept t s n room h =
-    let a = sound (tablesRule t) _ h in
-    (a .0, sound (stateRule s) (roomRule n room) (a .1) .0)
 
 -- A call of Section that is not refused, from what it promises (`answer`, `written`, `typed`) and nothing else
 pub call-equal : (t : Tables) (s : State) (n : ℕ) (before after : List ℕ) (r : Sectioned)

@@ -8,11 +8,11 @@ use native.Mathlib.Omega.{arith}
 use native.Mathlib.Nat.{le-trans}
 use lib.Dec.{eqb, ltb}
 use lib.ListN.{length, getD}
-use borrow.Author.Tests.{ltb-false, eqb-true, eqb-false, not-false}
+use borrow.Author.Tests.{ltb-false, eqb-true, not-false}
 use Rattle.laws.specs.Choice.{pick}
 use Rattle.laws.specs.Refusals.{Said, said}
 use Rattle.laws.proofs.Picks.{and-true, or-false}
-use Rattle.laws.proofs.Rules.{sound, kept}
+use Rattle.laws.proofs.Rules.{sound, kept, not-zero}
 use Rattle.tune.specs.Opening.{levelsBroken}
 use Rattle.s3m.specs.Layout.{countsOf, instrumentsAt, pansAt, hasPans, listsEnd}
 use Rattle.s3m.specs.Instruments.{instrumentsPast}
@@ -44,16 +44,13 @@ accepted s e =
     let orders = or-false (eqb (c .orders) 0) (ltb 255 (c .orders)) (instruments .0) in
     record {
       long = ltb-false (length s) 96 (kept 0 _ (one .0));
-      orders-least = least (c .orders) (eqb-false (c .orders) 0 (orders .0));
+      orders-least = not-zero (c .orders) (orders .0);
       orders-most = ltb-false 255 (c .orders) (orders .1);
       instruments-most = ltb-false 99 (c .instruments) (instruments .1);
       patterns-most = ltb-false 100 (c .patterns) (patterns .1);
       lists = ltb-false (length s) (listsEnd s c) (kept 3 _ (four .0));
       levels = kept 4 _ (four .1);
     }
-  where
-    least : (n : ℕ) → (n ≡ 0 → ⊥) → 1 ≤ n
-    least n h = omega arith
 
 -- the same of counts that were read, with where the two lists of pointers end
 pub record Listed (s : List ℕ) (c : Counts) : Type 0 where

@@ -5,7 +5,6 @@ use mathlib.Core.List.{List, [], _++_, append-assoc}
 use native.Mathlib.Omega.{arith}
 use lib.ListN.{length, getD, drop}
 use lib.Seq.{drop-at, drop-drop}
-use Rattle.laws.proofs.Rules.{sound}
 use Rattle.tune.specs.Numbers.{littleAt, bytesOf}
 use Rattle.tune.proofs.Little.{little-back}
 use Rattle.row_path.specs.Enter.{entered}
@@ -20,13 +19,13 @@ use Rattle.row_path.proofs.Unmoved.{entered-clock}
 use Rattle.row_path.proofs.Walks.{turn-kinds}
 use Rattle.channel.specs.declared.state.Channel.{Channel}
 use Rattle.section.specs.declared.state.State.{State}
-use Rattle.section.specs.Tables.{Tables, tablesRule}
+use Rattle.section.specs.Tables.{Tables}
 use Rattle.section.specs.Typed.{Shaped, ByteTables}
 use Rattle.section.specs.Records.{startAt, strikesAt, lengthAt, rowHead, channelsBytes, recordBytes}
 use Rattle.section.specs.Machines.{recordOf, voicesAfter}
-use Rattle.section.specs.Section.{stateRule, roomRule, sectionRule}
+use Rattle.section.specs.Section.{sectionRule}
 use Rattle.section.specs.Walk.{voicesOf, stateWith, stepBy, step, Walked, onto, goOn, walk}
-use Rattle.section.proofs.Ready.{ready, rule-sound}
+use Rattle.section.proofs.Ready.{rules-kept, ready, rule-sound}
 use Rattle.section.proofs.Sizes.{bytes-length}
 use Rattle.section.proofs.Walks.{machines, walk-machines}
 
@@ -96,11 +95,10 @@ module _ (t : Tables) where
   -- the numbers of a row that Section enters fit in their bytes
   pub row-fits : (n room k : ℕ) (s : State) → sectionRule t s n room ≡ 0 → ByteTables t → Shaped s → k ≤ n
       → (rowAt (walk t k s .state) .path .clock .start < 2 ^ 64) × (lengthOf (rowAt (walk t k s .state) .path .clock) < 2 ^ 32)
-  unfolding sectionRule machines stateWith
+  unfolding machines stateWith
   row-fits n room k s rule bytes shaped few =
-      let a = sound (tablesRule t) _ rule in
       let r = ready t s n room rule in
-      let p = rule-sound s (sound (stateRule s) (roomRule n room) (a .1) .0) shaped in
+      let p = rule-sound s (rules-kept t s n room rule .1) shaped in
       let w = pathWalk (t .orders) (t .cells) k (s .path) .path in
       let e : walk t k s .state .path ≡ w = ap (λ (x : Walked). x .state .path) (walk-machines t k s) in
       let q = entered-kept (t .orders) (t .cells) w (r .orders) (bytes .cells) (walk-sound (t .orders) (t .cells) (r .orders) (bytes .cells) k (s .path) p) .path in

@@ -3,14 +3,13 @@ use Prim.Native.Nat.{ℕ, _*_, _^_, _≤_}
 use mathlib.Core.Path.{_≡_, sym, subst}
 use mathlib.Core.Bool.{Bool, not, _||_, false, true}
 use mathlib.Core.List.{List}
-use native.Mathlib.Omega.{arith}
-use borrow.Author.Tests.{eqb-false, ltb-false, not-false, not-true}
+use borrow.Author.Tests.{ltb-false, not-false, not-true}
 use lib.Dec.{T, eqb, ltb}
 use lib.Ieee.{isNan}
 use lib.ListN.{length, getD}
 use Rattle.laws.specs.Entries.{every}
 use Rattle.laws.proofs.Picks.{or-false}
-use Rattle.laws.proofs.Rules.{sound, kept}
+use Rattle.laws.proofs.Rules.{sound, kept, not-zero}
 use Rattle.laws.proofs.Tables.{at}
 use Rattle.tune.specs.Opening.{rateBroken}
 use Rattle.tune.specs.Sizes.{patternCount}
@@ -52,12 +51,9 @@ path-parts p e =
         rate = ltb-false 100000 (p .clock .rate) (r .1);
       },
       ltb-false (2 ^ 62) (p .clock .start) (b .1),
-      least (p .clock .speed) (eqb-false (p .clock .speed) 0 (f .1)),
-      least (p .clock .rate) (eqb-false (p .clock .rate) 0 (r .0)),
+      not-zero (p .clock .speed) (f .1),
+      not-zero (p .clock .rate) (r .0),
     )
-  where
-    least : (n : ℕ) → (n ≡ 0 → ⊥) → 1 ≤ n
-    least n h = omega arith
 
 number : (b : Bool) → b ≡ false → T (not b)
 number b e = subst (λ (x : Bool). T (not x)) (sym e) tt
@@ -98,20 +94,25 @@ room-parts n room e =
     let b = or-false (ltb 65535 n) (ltb room (recordSize * n)) (kept 11 _ e) in
     (ltb-false 65535 n (b .0), ltb-false room (recordSize * n) (b .1))
 
--- its channels are none that rule 11 refuses
-pub whole-channels : (t : Tables) (s : State) (n room : ℕ) → sectionRule t s n room ≡ 0 → every (λ i c. not (channelBroken c)) 0 (s .channels) ≡ true
+-- each of its three rules is kept
+pub rules-kept : (t : Tables) (s : State) (n room : ℕ) → sectionRule t s n room ≡ 0 → (tablesRule t ≡ 0) × (stateRule s ≡ 0) × (roomRule n room ≡ 0)
 unfolding sectionRule
-whole-channels t s n room e = state-parts s (sound (stateRule s) (roomRule n room) (sound (tablesRule t) _ e .1) .0) .1
-
-pub ready : (t : Tables) (s : State) (n room : ℕ) → sectionRule t s n room ≡ 0 → Ready t s n room
-unfolding sectionRule
-ready t s n room e =
+rules-kept t s n room e =
     let a = sound (tablesRule t) _ e in
     let b = sound (stateRule s) (roomRule n room) (a .1) in
+    (a .0, b .0, b .1)
+
+-- its channels are none that rule 11 refuses
+pub whole-channels : (t : Tables) (s : State) (n room : ℕ) → sectionRule t s n room ≡ 0 → every (λ i c. not (channelBroken c)) 0 (s .channels) ≡ true
+whole-channels t s n room e = state-parts s (rules-kept t s n room e .1) .1
+
+pub ready : (t : Tables) (s : State) (n room : ℕ) → sectionRule t s n room ≡ 0 → Ready t s n room
+ready t s n room e =
+    let a = rules-kept t s n room e in
     let z = sized (t .orders) (t .cells) (t .samples) (a .0) in
-    let p = state-parts s (b .0) in
+    let p = state-parts s (a .1) in
     let q = path-parts (s .path) (p .0) in
-    let r = room-parts n room (b .1) in
+    let r = room-parts n room (a .2) in
     record {
       orders = z .orders-most;
       cells = z .patterns-whole;

@@ -2,12 +2,11 @@
 use mathlib.Core.Path.{_≡_}
 use mathlib.Core.Bool.{_||_, not}
 use Prim.Native.Nat.{ℕ, _≤_, _<_}
-use native.Mathlib.Omega.{arith}
 use lib.Dec.{eqb, leb, ltb}
 use lib.ListN.{length, getD}
-use borrow.Author.Tests.{eqb-false, ltb-false, leb-true, not-false}
+use borrow.Author.Tests.{ltb-false, leb-true, not-false}
 use Rattle.laws.proofs.Picks.{or-false}
-use Rattle.laws.proofs.Rules.{kept}
+use Rattle.laws.proofs.Rules.{kept, not-zero}
 use Rattle.laws.proofs.Tables.{at}
 use Rattle.tune.specs.Opening.{levelsBroken, rateBroken, pansKept, rule10}
 use Rattle.tune.specs.declared.opening.ChannelOpening.{ChannelOpening}
@@ -31,13 +30,10 @@ in-range o e =
     let two = or-false (eqb (o .speed) 0) (ltb (o .tempo) 32) (three .0) in
     let rate = or-false (eqb (o .rate) 0) (ltb 100000 (o .rate)) (front .1) in
     record {
-      speed-least = least (o .speed) (eqb-false (o .speed) 0 (two .0));
+      speed-least = not-zero (o .speed) (two .0);
       tempo-least = ltb-false (o .tempo) 32 (two .1);
       volume-most = ltb-false 64 (o .«global_volume») (three .1);
-      rate-least = least (o .rate) (eqb-false (o .rate) 0 (rate .0));
+      rate-least = not-zero (o .rate) (rate .0);
       rate-most = ltb-false 100000 (o .rate) (rate .1);
       pan-most = λ k d h. leb-true _ 15 (at (λ i c. leb (c .pan) 15) (o .channels) d (not-false (pansKept (o .channels)) (levels .1)) k h);
     }
-  where
-    least : (n : ℕ) → (n ≡ 0 → ⊥) → 1 ≤ n
-    least n h = omega arith
