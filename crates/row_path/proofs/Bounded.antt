@@ -9,13 +9,14 @@ use Rattle.laws.proofs.Picks.{choice}
 use Rattle.tune.specs.Sizes.{patternCount}
 use Rattle.row_path.specs.Orders.{skipped, patternAt}
 use Rattle.row_path.specs.Enter.{endedAt, arrived, acted, visited, enteredAt, entered}
-use Rattle.row_path.specs.Leave.{lengthOf, left}
+use Rattle.row_path.specs.Card.{lengthOf}
+use Rattle.row_path.specs.Leave.{left}
 use Rattle.row_path.specs.Sound.{Bounded, BoundedEntered}
 use Rattle.row_path.specs.declared.option.ByteOption.{ByteOption}
 use Rattle.row_path.specs.declared.option.ByteOption.the-variants.{None, Some}
 use Rattle.row_path.specs.declared.machine.Path.{Path}
 use Rattle.row_path.specs.declared.machine.Entered.{Entered}
-use Rattle.row_path.proofs.Lengths.{length-most}
+use Rattle.row_path.proofs.Lengths.{length-fits}
 use Rattle.row_path.proofs.Keeping.{Keeps, entered-keeps, left-keeps}
 use Rattle.row_path.proofs.Named.{named-below}
 use Rattle.row_path.proofs.Unmoved.{left-start}
@@ -27,10 +28,10 @@ abbrev Rate : ℕ → Type 0
 Rate x = x ≤ 100000
 
 parts : (p : Path) → Bounded p → Keeps Any Any Rate p
-parts p h = record { order = tt; row = h .row; start-row = h .start-row; speed = tt; tempo = h .tempo; rate = h .rate }
+parts p h = record { order = tt; row = h .row; start-row = h .start-row; speed = tt; tempo = h .tempo; rate = h .rate; remainder = h .remainder }
 
 whole : (p : Path) → Keeps Any Any Rate p → Bounded p
-whole p k = record { row = k .row; start-row = k .start-row; tempo = k .tempo; rate = k .rate }
+whole p k = record { row = k .row; start-row = k .start-row; tempo = k .tempo; rate = k .rate; remainder = k .remainder }
 
 -- enter keeps a bounded path bounded, and the jump that it leaves is one to a pattern's row
 pub entered-bounded : (orders cells : List ℕ) (p : Path) → Bounded p → BoundedEntered (entered orders cells p)
@@ -62,7 +63,7 @@ entered-named orders cells p e =
     at-named cells p order (patternCount cells) (patternAt orders (patternCount cells) order) (named-below orders (patternCount cells) order) e
 
 -- leave adds less than 2^32 to the card start
-pub left-within : (orders : List ℕ) (e : Entered) (r : Path) → e .path .clock .speed ≤ 255 → 32 ≤ e .path .clock .tempo → e .path .clock .rate ≤ 100000 → r ≡ left orders e → r .clock .start ≤ e .path .clock .start + 2 ^ 32
-left-within orders e r hs ht hr q =
+pub left-within : (orders : List ℕ) (e : Entered) (r : Path) → e .path .clock .speed ≤ 255 → e .path .clock .rate ≤ 100000 → e .path .clock .remainder < 65536 → r ≡ left orders e → r .clock .start ≤ e .path .clock .start + 2 ^ 32
+left-within orders e r hs hr hm q =
     let s : r .clock .start ≡ e .path .clock .start + lengthOf (e .path .clock) = ap (λ (p : Path). p .clock .start) q ∙ left-start orders e in
-    omega (arith, length-most (e .path .clock) hs ht hr)
+    omega (arith, length-fits (e .path .clock) hs hr hm)

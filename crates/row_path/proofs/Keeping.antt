@@ -1,5 +1,5 @@
 -- What enter and leave keep, for any claims on orders, speeds and the rate: Kept and Bounded are its two cases. Assumes nothing.
-use Prim.Native.Nat.{ℕ, zero, suc, _/_, _≤_}
+use Prim.Native.Nat.{ℕ, zero, suc, _*_, _/_, _≤_, _<_}
 use mathlib.Core.Path.{_≡_}
 use mathlib.Core.Bool.{false, not, _&&_}
 use mathlib.Core.List.{List}
@@ -13,7 +13,7 @@ use Rattle.row_path.specs.Option.{isAt, orBefore}
 use Rattle.row_path.specs.Orders.{nextOrder, skipped}
 use Rattle.row_path.specs.Scan.{scanSpeed, scanTempo, scanOrder, scanRow, scanLoop, scanDelay, scanInfo, special, specialAt, breakRow, heard, scanned, firstScan}
 use Rattle.row_path.specs.Loops.{scoped, jumpOf, turns, again, requested, looped}
-use Rattle.row_path.specs.Enter.{endedAt, arrived, paced, settled, loopedBy, acted, visited, enteredAt, entered}
+use Rattle.row_path.specs.Enter.{endedAt, arrived, clockAt, paced, settled, loopedBy, acted, visited, enteredAt, entered}
 use Rattle.row_path.specs.Leave.{ticked, jumps, placeAfter, heldOn, goneOn, left}
 use Rattle.row_path.specs.Sound.{Each, JumpTo}
 use Rattle.row_path.specs.declared.option.ByteOption.{ByteOption}
@@ -26,12 +26,13 @@ use Rattle.row_path.specs.declared.loops.Jump.the-variants.{Stay, To}
 use Rattle.row_path.specs.declared.loops.Looped.{Looped}
 use Rattle.row_path.specs.declared.machine.Path.{Path}
 use Rattle.row_path.specs.declared.machine.Entered.{Entered}
+use Rattle.row_path.proofs.Lengths.{rest-small, rescaled-small}
 
 kept : (P : ℕ → Type 0) (o : ByteOption) (before : ℕ) → Each P o → P before → P (orBefore o before)
 kept P None before h b = b
 kept P (Some x) before h b = h
 
--- the claims on order, speed and rate; row and loop start at most 63, tempo at least 32
+-- the claims on order, speed and rate; row and loop start at most 63, tempo at least 32, the remainder below 2 × tempo
 pub record Keeps (O S R : ℕ → Type 0) (p : Path) : Type 0 where
   pub order : O (p .place .order)
   pub row : p .place .row ≤ 63
@@ -39,6 +40,7 @@ pub record Keeps (O S R : ℕ → Type 0) (p : Path) : Type 0 where
   pub speed : S (p .clock .speed)
   pub tempo : 32 ≤ p .clock .tempo
   pub rate : R (p .clock .rate)
+  pub remainder : p .clock .remainder < 2 * p .clock .tempo
 
 record KeepsScan (O S : ℕ → Type 0) (a : Scan) : Type 0 where
   speed : Each S (a .«row_speed»)
@@ -104,17 +106,19 @@ module _ (B O S R : ℕ → Type 0) (order-of : (x : ℕ) → B x → O x) (spee
   scoped-kept l order h = choice (λ (k : PatternLoop). k .«start_row» ≤ 63) (isAt (l .order) order) (λ _. h) (λ _. omega arith)
 
   acted-kept : (p : Path) (pattern : ℕ) (a : Scan) → Keeps O S R p → KS a → KE (acted p pattern a)
-  unfolding acted settled paced loopedBy
+  unfolding acted settled paced clockAt loopedBy
   acted-kept p pattern a h s =
       let j = jump-kept (a .«jump_row») (a .«jump_order») (s .row) (s .order) in
-      let l = looped-kept (a .«row_loop_request») (p .place) (p .«pattern_loop») (jumpOf (a .«jump_row») (a .«jump_order»)) (h .order) (h .row) (h .start-row) j in (
+      let l = looped-kept (a .«row_loop_request») (p .place) (p .«pattern_loop») (jumpOf (a .«jump_row») (a .«jump_order»)) (h .order) (h .row) (h .start-row) j in
+      let t = kept (λ x. 32 ≤ x) (a .«row_tempo») (p .clock .tempo) (s .tempo) (h .tempo) in (
         record {
           order = h .order;
           row = h .row;
           start-row = l .0;
           speed = kept S (a .«row_speed») (p .clock .speed) (s .speed) (h .speed);
-          tempo = kept (λ x. 32 ≤ x) (a .«row_tempo») (p .clock .tempo) (s .tempo) (h .tempo);
+          tempo = t;
           rate = h .rate;
+          remainder = rescaled-small (p .clock .remainder) (p .clock .tempo) (h .remainder) _ (omega (arith, t));
         },
         l .1,
       )
@@ -127,10 +131,10 @@ module _ (B O S R : ℕ → Type 0) (order-of : (x : ℕ) → B x → O x) (spee
 
   at-kept : (cells : List ℕ) (p : Path) (order : ℕ) (named : ByteOption) → ((v r k : ℕ) → B (getD (rowCells cells v r) k 0)) → O order → Keeps O S R p → KE (enteredAt cells p order named)
   unfolding enteredAt endedAt arrived
-  at-kept cells p order None b o h = (record { order = o; row = h .row; start-row = h .start-row; speed = h .speed; tempo = h .tempo; rate = h .rate }, tt)
+  at-kept cells p order None b o h = (record { order = o; row = h .row; start-row = h .start-row; speed = h .speed; tempo = h .tempo; rate = h .rate; remainder = h .remainder }, tt)
   at-kept cells p order (Some v) b o h =
       visited-kept cells (arrived p order) v (b v (p .place .row))
-      (record { order = o; row = h .row; start-row = scoped-kept (p .«pattern_loop») order (h .start-row); speed = h .speed; tempo = h .tempo; rate = h .rate })
+      (record { order = o; row = h .row; start-row = scoped-kept (p .«pattern_loop») order (h .start-row); speed = h .speed; tempo = h .tempo; rate = h .rate; remainder = h .remainder })
 
   pub entered-keeps : (orders cells : List ℕ) (p : Path) → ((v r k : ℕ) → B (getD (rowCells cells v r) k 0)) → O (skipped orders (p .place .order)) → Keeps O S R p → KE (entered orders cells p)
   unfolding entered
@@ -145,6 +149,7 @@ module _ (B O S R : ℕ → Type 0) (order-of : (x : ℕ) → B x → O x) (spee
   unfolding left heldOn goneOn ticked
   left-keeps orders e h j =
       let p = place-kept (e .jump) (e .path .place) j (h .order) (h .row) in
+      let rest = rest-small (e .path .clock) (omega (arith, h .tempo)) in
       choice (Keeps O S R) (ltb 0 (e .path .hold .left) && not (jumps (e .jump)))
-      (λ _. record { order = h .order; row = h .row; start-row = h .start-row; speed = h .speed; tempo = h .tempo; rate = h .rate })
-      (λ _. record { order = p .0; row = p .1; start-row = h .start-row; speed = h .speed; tempo = h .tempo; rate = h .rate })
+      (λ _. record { order = h .order; row = h .row; start-row = h .start-row; speed = h .speed; tempo = h .tempo; rate = h .rate; remainder = rest })
+      (λ _. record { order = p .0; row = p .1; start-row = h .start-row; speed = h .speed; tempo = h .tempo; rate = h .rate; remainder = rest })

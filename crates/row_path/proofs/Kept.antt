@@ -49,11 +49,11 @@ next : (x : ℕ) → Order (nextOrder x)
 next x = omega arith
 
 parts : (p : Path) → Sound p → Keeps Order Speed Rate p
-parts p h = record { order = h .order; row = h .row; start-row = h .start-row; speed = (h .slow, h .fast); tempo = h .tempo; rate = (h .moves, h .rate) }
+parts p h = record { order = h .order; row = h .row; start-row = h .start-row; speed = (h .slow, h .fast); tempo = h .tempo; rate = (h .moves, h .rate); remainder = h .remainder }
 
 whole : (p : Path) → Keeps Order Speed Rate p → Sound p
 whole p k =
-    record { order = k .order; row = k .row; start-row = k .start-row; slow = k .speed .0; fast = k .speed .1; tempo = k .tempo; moves = k .rate .0; rate = k .rate .1 }
+    record { order = k .order; row = k .row; start-row = k .start-row; slow = k .speed .0; fast = k .speed .1; tempo = k .tempo; moves = k .rate .0; rate = k .rate .1; remainder = k .remainder }
 
 -- enter keeps a sound path sound, and the jump that it leaves is one to a pattern's row
 pub entered-kept : (orders cells : List ℕ) (p : Path) → length orders ≤ 255 → Bytes cells → Sound p → SoundEntered (entered orders cells p)

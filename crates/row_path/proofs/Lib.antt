@@ -9,4 +9,5 @@ pub mod Bounded
 pub mod ReadsOnly
 pub mod Unsteered
 pub mod Walks
+pub mod Drift
 pub mod SoundWalks

@@ -6,7 +6,8 @@ use mathlib.Core.List.{List}
 use native.Mathlib.Omega.{arith}
 use lib.ListN.{length, getD}
 use Rattle.row_path.specs.Enter.{entered}
-use Rattle.row_path.specs.Leave.{lengthOf, left}
+use Rattle.row_path.specs.Card.{lengthOf}
+use Rattle.row_path.specs.Leave.{left}
 use Rattle.row_path.specs.Sound.{Sound, SoundEntered, Bytes}
 use Rattle.row_path.specs.Walk.{Turn, onward, more, pathWalk, rowsLeft}
 use Rattle.row_path.specs.declared.machine.Path.{Path}
@@ -16,7 +17,7 @@ use Rattle.row_path.proofs.Kept.{entered-kept, left-kept}
 use Rattle.row_path.proofs.Unmoved.{entered-clock, left-start}
 use Rattle.row_path.proofs.Walks.{turn-kinds, rows-entered}
 
-later : (n a b c l : ℕ) → b ≡ a → l ≤ 1992187 → c ≤ b + l + n * 1992187 → c ≤ a + suc n * 1992187
+later : (n a b c l : ℕ) → b ≡ a → l ≤ 1992188 → c ≤ b + l + n * 1992188 → c ≤ a + suc n * 1992188
 later n a b c l e h k = omega arith
 
 module _ (orders cells : List ℕ) (l : length orders ≤ 255) (b : Bytes cells) where
@@ -33,19 +34,19 @@ module _ (orders cells : List ℕ) (l : length orders ≤ 255) (b : Bytes cells)
       (λ _. entered-kept orders cells p l b h .path)
       (λ _. walk-sound n (left orders (entered orders cells p)) (row-kept p h))
 
-  -- n rows add at most n × 1,992,187 to the card start
-  pub walk-start : (n : ℕ) (p : Path) → Sound p → pathWalk orders cells n p .path .clock .start ≤ p .clock .start + n * 1992187
+  -- n rows add at most n × 1,992,188 to the card start
+  pub walk-start : (n : ℕ) (p : Path) → Sound p → pathWalk orders cells n p .path .clock .start ≤ p .clock .start + n * 1992188
   unfolding pathWalk onward more
   walk-start zero p h = omega arith
   walk-start (suc n) p h =
       let e = entered orders cells p in
       let s = entered-kept orders cells p l b h .path in
       let k = walk-start n (left orders e) (row-kept p h) in
-      turn-kinds orders cells (λ (x : Turn). onward x (pathWalk orders cells n) .path .clock .start ≤ p .clock .start + suc n * 1992187) p
+      turn-kinds orders cells (λ (x : Turn). onward x (pathWalk orders cells n) .path .clock .start ≤ p .clock .start + suc n * 1992188) p
       (λ _. omega arith)
       (λ _. omega (arith, entered-clock orders cells p .1))
-      (λ _. later n (p .clock .start) (e .path .clock .start) _ (lengthOf (e .path .clock)) (entered-clock orders cells p .1) (length-most (e .path .clock) (s .fast) (s .tempo) (s .rate))
-      (subst (λ (m : ℕ). pathWalk orders cells n (left orders e) .path .clock .start ≤ m + n * 1992187) (left-start orders e) k))
+      (λ _. later n (p .clock .start) (e .path .clock .start) _ (lengthOf (e .path .clock)) (entered-clock orders cells p .1) (length-most (e .path .clock) (s .fast) (s .tempo) (s .rate) (s .remainder))
+      (subst (λ (m : ℕ). pathWalk orders cells n (left orders e) .path .clock .start ≤ m + n * 1992188) (left-start orders e) k))
 
   -- each row of a walk is sound and not ended
   pub rows-sound : (n k : ℕ) (p : Path) (d : Entered) → Sound p → k < rowsLeft orders cells n p → SoundEntered (getD (pathWalk orders cells n p .rows) k d) × (getD (pathWalk orders cells n p .rows) k d .path .ended ≡ false)

@@ -10,8 +10,9 @@ use Rattle.tune.specs.Sizes.{patternCount}
 use Rattle.tune.specs.Cells.{rowCells}
 use Rattle.row_path.specs.Orders.{skipped, patternAt}
 use Rattle.row_path.specs.Scan.{scanSpeed, scanTempo, scanOrder, scanRow, scanLoop, scanDelay, scanInfo, special, specialAt, breakRow, heard, scanned, firstScan}
-use Rattle.row_path.specs.Enter.{endedAt, arrived, paced, settled, acted, visited, enteredAt, entered}
-use Rattle.row_path.specs.Leave.{lengthOf, ticked, jumps, heldOn, goneOn, left}
+use Rattle.row_path.specs.Enter.{endedAt, arrived, clockAt, paced, settled, acted, visited, enteredAt, entered}
+use Rattle.row_path.specs.Card.{lengthOf}
+use Rattle.row_path.specs.Leave.{ticked, jumps, heldOn, goneOn, left}
 use Rattle.row_path.specs.declared.option.ByteOption.{ByteOption}
 use Rattle.row_path.specs.declared.option.ByteOption.the-variants.{None, Some}
 use Rattle.row_path.specs.declared.scan.Scan.{Scan}
@@ -57,7 +58,7 @@ record Unmoved (p q : Path) : Type 0 where
   size : length (q .«s_info») ≡ length (p .«s_info»)
 
 visited-unmoved : (cells : List ℕ) (p : Path) (pattern : ℕ) → Unmoved p (visited cells p pattern .path)
-unfolding visited acted settled paced
+unfolding visited acted settled paced clockAt
 visited-unmoved cells p pattern =
     choice (λ (e : Entered). Unmoved p (e .path)) (p .hold .held)
     (λ _. record { rate = refl; start = refl; row = refl; size = refl })

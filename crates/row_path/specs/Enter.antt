@@ -9,6 +9,7 @@ use Rattle.row_path.specs.Option.{orBefore}
 use Rattle.row_path.specs.Orders.{skipped, patternAt}
 use Rattle.row_path.specs.Scan.{scanned, firstScan}
 use Rattle.row_path.specs.Loops.{scoped, jumpOf, looped}
+use Rattle.row_path.specs.Card.{rescaled}
 use Rattle.row_path.specs.declared.option.ByteOption.{ByteOption}
 use Rattle.row_path.specs.declared.option.ByteOption.the-variants.{None, Some}
 use Rattle.row_path.specs.declared.scan.Scan.{Scan}
@@ -43,10 +44,14 @@ arrived p order =
       «s_info» = p .«s_info»;
     }
 
+-- a clock with speed and tempo set: the remainder goes with the tempo, before that row's length (02, 2026-01)
+unfoldable pub clockAt : Clock → ℕ → ℕ → Clock
+clockAt c speed tempo =
+    record { speed = speed; tempo = tempo; rate = c .rate; start = c .start; remainder = rescaled (c .remainder) (c .tempo) tempo }
+
 -- step 7: speed and tempo hold from this row on; a hold request sets hold, also to 0
 unfoldable pub paced : Clock → Scan → Clock
-paced c a =
-    record { speed = orBefore (a .«row_speed») (c .speed); tempo = orBefore (a .«row_tempo») (c .tempo); rate = c .rate; start = c .start }
+paced c a = clockAt c (orBefore (a .«row_speed») (c .speed)) (orBefore (a .«row_tempo») (c .tempo))
 
 unfoldable pub delayed : Hold → Scan → Hold
 delayed h a = record { left = orBefore (a .«row_pattern_delay») (h .left); held = h .held }

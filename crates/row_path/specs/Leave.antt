@@ -1,5 +1,5 @@
 -- Leave (01, 'Section, first part'). Assumes nothing.
-use Prim.Native.Nat.{ℕ, _+_, _*_, _/_, _-_}
+use Prim.Native.Nat.{ℕ, _+_, _-_}
 use mathlib.Core.Bool.{Bool, true, false, not, _&&_, _||_}
 use mathlib.Core.List.{List}
 use lib.Dec.{ltb, leb}
@@ -7,6 +7,7 @@ use lib.ListN.{length}
 use Rattle.laws.specs.Choice.{pick}
 use Rattle.row_path.specs.Option.{orBefore}
 use Rattle.row_path.specs.Orders.{nextOrder}
+use Rattle.row_path.specs.Card.{lengthOf, restOf}
 use Rattle.row_path.specs.declared.loops.Place.{Place}
 use Rattle.row_path.specs.declared.loops.Jump.{Jump}
 use Rattle.row_path.specs.declared.loops.Jump.the-variants.{Stay, To}
@@ -14,13 +15,9 @@ use Rattle.row_path.specs.declared.machine.Clock.{Clock}
 use Rattle.row_path.specs.declared.machine.Path.{Path}
 use Rattle.row_path.specs.declared.machine.Entered.{Entered}
 
--- the row's length in micrometres: speed × 5 × rate / (2 × tempo), cut down to a whole number
-unfoldable pub lengthOf : Clock → ℕ
-lengthOf c = c .speed * 5 * c .rate / (2 * c .tempo)
-
--- card start grows by the row's length
+-- card start grows by the row's length, and the new remainder stays
 unfoldable pub ticked : Clock → Clock
-ticked c = record { speed = c .speed; tempo = c .tempo; rate = c .rate; start = c .start + lengthOf c }
+ticked c = record { speed = c .speed; tempo = c .tempo; rate = c .rate; start = c .start + lengthOf c; remainder = restOf c }
 
 abbrev pub jumps : Jump → Bool
 jumps Stay = false

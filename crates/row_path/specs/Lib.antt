@@ -2,9 +2,11 @@ pub mod Option
 pub mod Orders
 pub mod Scan
 pub mod Loops
+pub mod Card
 pub mod Enter
 pub mod Leave
 pub mod Sound
 pub mod Steering
 pub mod Walk
+pub mod Drift
 pub mod First

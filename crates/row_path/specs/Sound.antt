@@ -1,5 +1,5 @@
 -- What rules 9 and 11 settle of a path, and every enter and leave keeps (01, 'Why a call says no'). Assumes nothing.
-use Prim.Native.Nat.{ℕ, _≤_, _<_}
+use Prim.Native.Nat.{ℕ, _*_, _≤_, _<_}
 use mathlib.Core.List.{List}
 use lib.ListN.{getD}
 use Rattle.row_path.specs.declared.option.ByteOption.{ByteOption}
@@ -9,7 +9,8 @@ use Rattle.row_path.specs.declared.loops.Jump.the-variants.{Stay, To}
 use Rattle.row_path.specs.declared.machine.Path.{Path}
 use Rattle.row_path.specs.declared.machine.Entered.{Entered}
 
--- row and loop start at most 63, speed at least 1, tempo at least 32, the rate in range; order and speed are bytes
+-- row and loop start at most 63, speed at least 1, tempo at least 32, the rate in range, the remainder below 2 × tempo; order
+-- and speed are bytes
 pub record Sound (p : Path) : Type 0 where
   pub order : p .place .order ≤ 255
   pub row : p .place .row ≤ 63
@@ -19,6 +20,7 @@ pub record Sound (p : Path) : Type 0 where
   pub tempo : 32 ≤ p .clock .tempo
   pub moves : 1 ≤ p .clock .rate
   pub rate : p .clock .rate ≤ 100000
+  pub remainder : p .clock .remainder < 2 * p .clock .tempo
 
 -- an absent byte, or one of which P holds
 abbrev pub Each : (ℕ → Type 0) → ByteOption → Type 0
@@ -40,6 +42,7 @@ pub record Bounded (p : Path) : Type 0 where
   pub start-row : p .«pattern_loop» .«start_row» ≤ 63
   pub tempo : 32 ≤ p .clock .tempo
   pub rate : p .clock .rate ≤ 100000
+  pub remainder : p .clock .remainder < 2 * p .clock .tempo
 
 pub record BoundedEntered (e : Entered) : Type 0 where
   pub path : Bounded (e .path)

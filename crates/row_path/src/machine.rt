@@ -2,9 +2,10 @@
 ghost use mathlib.Core.Path.{_≡_};
 ghost use Prim.Native.Nat.{_+_, _*_, _^_, _≤_, _<_};
 ghost use lib.ListN.{length};
-ghost use Rattle.row_path.specs.Enter.{endedAt, arrived, paced, delayed, settled, loopedBy, acted, visited, entered};
+ghost use Rattle.row_path.specs.Card.{rescaled, unitsOf, lengthOf, restOf};
+ghost use Rattle.row_path.specs.Enter.{endedAt, arrived, clockAt, paced, delayed, settled, loopedBy, acted, visited, entered};
 ghost use Rattle.row_path.specs.First.{firstPath};
-ghost use Rattle.row_path.specs.Leave.{lengthOf, ticked, placeAfter, heldOn, goneOn, left};
+ghost use Rattle.row_path.specs.Leave.{ticked, placeAfter, heldOn, goneOn, left};
 ghost use Rattle.row_path.specs.Leave as spec;
 use crate::loops::Jump;
 use crate::loops::Looped;
@@ -30,12 +31,14 @@ pub struct Hold {
     pub held: bool,
 }
 
-// Rate is in micrometres a second; start is where the row starts on the card, in micrometres.
+// Rate is in micrometres a second; start is where the row starts on the card, in micrometres, and remainder how far behind
+// it, in units of 1/(2 × tempo) of one.
 pub struct Clock {
     pub speed: u8,
     pub tempo: u8,
     pub rate: u32,
     pub start: u64,
+    pub remainder: u16,
 }
 
 // The path's state, with each channel's last S info that was not 0.
@@ -75,6 +78,7 @@ pub fn first_path(speed: u8, tempo: u8, rate: u32) -> Path
             tempo,
             rate,
             start: 0,
+            remainder: 0,
         },
         ended: false,
         s_info: [0; 32],
@@ -101,17 +105,37 @@ fn arrive(p: Path, order: u8) -> Path
     q
 }
 
+// The remainder where the tempo goes from t to u.
+fn rescale(remainder: u16, t: u8, u: u8) -> u16
+    requires { ⌜ remainder < 2 * t ⌝ }
+    ensures { λ r. ⌜ r ≡ rescaled remainder t u ⌝ }
+{
+    if t == u {
+        return remainder;
+    }
+    ((remainder as u32) * (u as u32) / (t as u32)) as u16
+}
+
+fn clock_at(c: Clock, speed: u8, tempo: u8) -> Clock
+    requires { ⌜ c .remainder < 2 * c .tempo ⌝ }
+    ensures { λ r. ⌜ r ≡ clockAt c speed tempo ⌝ }
+{
+    Clock {
+        speed,
+        tempo,
+        rate: c.rate,
+        start: c.start,
+        remainder: rescale(c.remainder, c.tempo, tempo),
+    }
+}
+
 fn pace(c: Clock, a: Scan) -> Clock
+    requires { ⌜ c .remainder < 2 * c .tempo ⌝ }
     ensures { λ r. ⌜ r ≡ paced c a ⌝ }
 {
     let speed = a.row_speed;
     let tempo = a.row_tempo;
-    Clock {
-        speed: or_before(speed, c.speed),
-        tempo: or_before(tempo, c.tempo),
-        rate: c.rate,
-        start: c.start,
-    }
+    clock_at(c, or_before(speed, c.speed), or_before(tempo, c.tempo))
 }
 
 fn delay(h: Hold, a: Scan) -> Hold
@@ -125,6 +149,7 @@ fn delay(h: Hold, a: Scan) -> Hold
 }
 
 fn settle(p: Path, a: Scan, l: Looped) -> Path
+    requires { ⌜ p .clock .remainder < 2 * p .clock .tempo ⌝ }
     ensures { λ r. ⌜ r ≡ settled p a l ⌝ }
 {
     let place = p.place;
@@ -154,6 +179,7 @@ fn loop_by(p: Path, a: Scan) -> Looped
 }
 
 fn act(p: Path, pattern: u8, a: Scan) -> Entered
+    requires { ⌜ p .clock .remainder < 2 * p .clock .tempo ⌝ }
     ensures { λ r. ⌜ r ≡ acted p pattern a ⌝ }
 {
     let l = loop_by(p, a);
@@ -167,7 +193,7 @@ fn act(p: Path, pattern: u8, a: Scan) -> Entered
 
 // A visit of the row: a held one changes nothing more.
 fn visit(cells: &[u8], p: Path, pattern: u8) -> Entered
-    requires { ⌜ (pattern * 10240 + 10240 ≤ length (now cells)) × (p .place .row < 64) ⌝ }
+    requires { ⌜ (pattern * 10240 + 10240 ≤ length (now cells)) × (p .place .row < 64) × (p .clock .remainder < 2 * p .clock .tempo) ⌝ }
     ensures { λ r. ⌜ r ≡ visited (now (cells .entry)) p pattern ⌝ }
 {
     if p.hold.held {
@@ -184,7 +210,7 @@ fn visit(cells: &[u8], p: Path, pattern: u8) -> Entered
 
 // Enter: the path at the row, or ended.
 pub fn enter(orders: &[u8], cells: &[u8], p: Path) -> Entered
-    requires { ⌜ (length (now orders) ≤ 255) × (p .place .row < 64) ⌝ }
+    requires { ⌜ (length (now orders) ≤ 255) × (p .place .row < 64) × (p .clock .remainder < 2 * p .clock .tempo) ⌝ }
     ensures { λ r. ⌜ r ≡ entered (now (orders .entry)) (now (cells .entry)) p ⌝ }
 {
     let order = skip(orders, p.place.order);
@@ -199,20 +225,39 @@ pub fn enter(orders: &[u8], cells: &[u8], p: Path) -> Entered
     }
 }
 
+// What a row and the remainder before it come to, in units of 1/(2 × tempo) of a micrometre.
+fn units(c: Clock) -> u32
+    requires { ⌜ c .rate ≤ 100000 ⌝ }
+    ensures { λ r. ⌜ r ≡ unitsOf c + c .remainder ⌝ }
+{
+    (c.speed as u32) * 5 * c.rate + c.remainder as u32
+}
+
 // The row's length on the card, in micrometres.
 pub fn row_length(c: Clock) -> u32
     requires { ⌜ (32 ≤ c .tempo) × (c .rate ≤ 100000) ⌝ }
     ensures { λ r. ⌜ r ≡ lengthOf c ⌝ }
 {
-    (c.speed as u32) * 5 * c.rate / (2 * (c.tempo as u32))
+    units(c) / (2 * (c.tempo as u32))
+}
+
+// What is left over of it: the new remainder.
+fn row_rest(c: Clock) -> u16
+    requires { ⌜ (32 ≤ c .tempo) × (c .rate ≤ 100000) ⌝ }
+    ensures { λ r. ⌜ r ≡ restOf c ⌝ }
+{
+    (units(c) % (2 * (c.tempo as u32))) as u16
 }
 
 fn tick(c: Clock) -> Clock
     requires { ⌜ (32 ≤ c .tempo) × (c .rate ≤ 100000) × (c .start ≤ 2 ^ 63) ⌝ }
     ensures { λ r. ⌜ r ≡ ticked c ⌝ }
 {
+    let length = row_length(c);
+    let rest = row_rest(c);
     let mut d = c;
-    d.start = c.start + row_length(c) as u64;
+    d.start = c.start + length as u64;
+    d.remainder = rest;
     d
 }
 

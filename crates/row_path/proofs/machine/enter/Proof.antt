@@ -31,7 +31,7 @@ unfolding arrived
 visit-requires c κs =
     let s = c .before .before .before .before .before .before .before .before in
     let named = named-below (now (s .args .orders)) _ _ _ (sym (c .before .before .before .before .pattern-at .ensures) ∙ c .before .before .named .given .1) in
-    (omega (arith, named), rw (c .arrive .ensures) (s .pre .1))
+    (omega (arith, named), rw (c .arrive .ensures) (s .pre .1), rw (c .arrive .ensures) (s .pre .2))
 
 returns : tie.Need-returns
 unfolding entered enteredAt
