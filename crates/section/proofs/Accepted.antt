@@ -4,7 +4,7 @@ use mathlib.Core.Path.{_≡_, refl, ap, _∙_, subst}
 use mathlib.Core.Bool.{Bool, true, false, not, _||_}
 use mathlib.Core.List.{List, [], _∷_, map}
 use native.Mathlib.Omega.{arith}
-use borrow.Author.Tests.{le-ltb, ne-eqb}
+use borrow.Author.Tests.{le-ltb, lt-leb, ne-eqb}
 use lib.Dec.{T, eqb}
 use lib.Ieee.{isNan}
 use Rattle.laws.specs.Entries.{every}
@@ -42,13 +42,14 @@ or-none a b e f = rw (e, f)
 pub path-kept : (p : Path) → Sound p → p .clock .start ≤ 2 ^ 62 → pathBroken p ≡ false
 unfolding pathBroken
 path-kept p h b =
-    or-none _ _ (or-none _ _ (or-none _ _ (or-none _ _ (or-none _ _
+    or-none _ _ (or-none _ _ (or-none _ _ (or-none _ _ (or-none _ _ (or-none _ _
     (le-ltb 63 (p .place .row) (h .row))
     (le-ltb 63 (p .«pattern_loop» .«start_row») (h .start-row)))
     (some-speed (p .clock .speed) (h .slow)))
     (le-ltb (p .clock .tempo) 32 (h .tempo)))
     (le-ltb (2 ^ 62) (p .clock .start) b))
-    (or-none _ _ (some-speed (p .clock .rate) (h .moves)) (le-ltb 100000 (p .clock .rate) (h .rate)))
+    (or-none _ _ (some-speed (p .clock .rate) (h .moves)) (le-ltb 100000 (p .clock .rate) (h .rate))))
+    (lt-leb (2 * p .clock .tempo) (p .clock .remainder) (h .remainder))
   where
     some-speed : (n : ℕ) → 1 ≤ n → eqb n 0 ≡ false
     some-speed n l = ne-eqb n 0 (λ e. omega arith)
@@ -88,13 +89,13 @@ pub first-sound : (o : Opening) → rule10 o ≡ 0 → o .speed ≤ 255 → Soun
 unfolding firstPath
 first-sound o e f =
     let r = in-range o e in
-    record { order = omega arith; row = omega arith; start-row = omega arith; slow = r .speed-least; fast = f; tempo = r .tempo-least; moves = r .rate-least; rate = r .rate-most }
+    record { order = omega arith; row = omega arith; start-row = omega arith; slow = r .speed-least; fast = f; tempo = r .tempo-least; moves = r .rate-least; rate = r .rate-most; remainder = omega (arith, r .tempo-least) }
 
 first-start : (o : Opening) → firstPath (o .speed) (o .tempo) (o .rate) .clock .start ≡ 0
 unfolding firstPath
 first-start o = refl
 
-near : (s n : ℕ) → n ≤ 2 ^ 32 → s ≤ 0 + n * 1992187 → s ≤ 2 ^ 62
+near : (s n : ℕ) → n ≤ 2 ^ 32 → s ≤ 0 + n * 1992188 → s ≤ 2 ^ 62
 near s n h b = omega arith
 
 kept-rule : (s : State) → pathBroken (s .path) ≡ false → every (λ i c. not (channelBroken c)) 0 (s .channels) ≡ true → stateRule s ≡ 0
@@ -113,7 +114,7 @@ own-accepted t o n e f b l h =
     ap (λ (x : Walked). stateRule (x .state)) (walk-machines t n (freshState o))
     ∙ kept-rule _
     (path-kept (w .path) (walk-sound (t .orders) (t .cells) short b n (firstPath (o .speed) (o .tempo) (o .rate)) first)
-    (near (w .path .clock .start) n h (subst (λ (m : ℕ). w .path .clock .start ≤ m + n * 1992187) (first-start o) from)))
+    (near (w .path .clock .start) n h (subst (λ (m : ℕ). w .path .clock .start ≤ m + n * 1992188) (first-start o) from)))
     (floats-kept d 0 (voicesBehind t (freshState o .switches) (w .rows) (voicesOf (freshState o)) .channels) (voices-numbered t (freshState o .switches) (w .rows) (voicesOf (freshState o)) d (opened-numbered d (o .channels))))
 
 -- Open accepts with 0 and the fresh state

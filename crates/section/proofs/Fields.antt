@@ -8,7 +8,8 @@ use lib.Seq.{drop-at, drop-drop}
 use Rattle.tune.specs.Numbers.{littleAt, bytesOf}
 use Rattle.tune.proofs.Little.{little-back}
 use Rattle.row_path.specs.Enter.{entered}
-use Rattle.row_path.specs.Leave.{lengthOf, left}
+use Rattle.row_path.specs.Card.{lengthOf}
+use Rattle.row_path.specs.Leave.{left}
 use Rattle.row_path.specs.Walk.{Turn, Stop, Row, turn, pathWalk}
 use Rattle.row_path.specs.declared.machine.Path.{Path}
 use Rattle.row_path.specs.declared.machine.Entered.{Entered}
@@ -103,8 +104,8 @@ module _ (t : Tables) where
       let e : walk t k s .state .path ≡ w = ap (λ (x : Walked). x .state .path) (walk-machines t k s) in
       let q = entered-kept (t .orders) (t .cells) w (r .orders) (bytes .cells) (walk-sound (t .orders) (t .cells) (r .orders) (bytes .cells) k (s .path) p) .path in
       let start = walk-start (t .orders) (t .cells) (r .orders) (bytes .cells) k (s .path) p in
-      let m : k * 1992187 ≤ 65535 * 1992187 = omega (arith, r .rows, few) in
+      let m : k * 1992188 ≤ 65535 * 1992188 = omega (arith, r .rows, few) in
       subst (λ (x : Path). (entered (t .orders) (t .cells) x .path .clock .start < 2 ^ 64) × (lengthOf (entered (t .orders) (t .cells) x .path .clock) < 2 ^ 32)) (sym e) (
         omega (arith, entered-clock (t .orders) (t .cells) w .1, start, m, r .start),
-        omega (arith, length-most (entered (t .orders) (t .cells) w .path .clock) (q .fast) (q .tempo) (q .rate)),
+        omega (arith, length-most (entered (t .orders) (t .cells) w .path .clock) (q .fast) (q .tempo) (q .rate) (q .remainder)),
       )

@@ -10,3 +10,4 @@ pub mod Sizes
 pub mod Typed
 pub mod Visiting
 pub mod Walks
+pub mod Starts

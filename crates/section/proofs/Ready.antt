@@ -1,10 +1,10 @@
 -- What a call of Section that no rule refuses has. Assumes nothing.
 use Prim.Native.Nat.{ℕ, _*_, _^_, _≤_}
 use mathlib.Core.Path.{_≡_, sym, subst}
-use mathlib.Core.Bool.{Bool, not, _||_, false, true}
+use mathlib.Core.Bool.{Bool, not, false, true}
 use mathlib.Core.List.{List}
-use borrow.Author.Tests.{ltb-false, not-false, not-true}
-use lib.Dec.{T, eqb, ltb}
+use borrow.Author.Tests.{ltb-false, leb-false, not-false, not-true}
+use lib.Dec.{T, eqb, ltb, leb}
 use lib.Ieee.{isNan}
 use lib.ListN.{length, getD}
 use Rattle.laws.specs.Entries.{every}
@@ -38,10 +38,11 @@ pub record Ready (t : Tables) (s : State) (n room : ℕ) : Type 0 where
 path-parts : (p : Path) → pathBroken p ≡ false → Bounded p × (p .clock .start ≤ 2 ^ 62) × (1 ≤ p .clock .speed) × (1 ≤ p .clock .rate)
 unfolding pathBroken
 path-parts p e =
-    let a = or-false (ltb 63 (p .place .row) || ltb 63 (p .«pattern_loop» .«start_row») || eqb (p .clock .speed) 0 || ltb (p .clock .tempo) 32 || ltb (2 ^ 62) (p .clock .start)) (rateBroken (p .clock .rate)) e in
-    let b = or-false (ltb 63 (p .place .row) || ltb 63 (p .«pattern_loop» .«start_row») || eqb (p .clock .speed) 0 || ltb (p .clock .tempo) 32) (ltb (2 ^ 62) (p .clock .start)) (a .0) in
-    let d = or-false (ltb 63 (p .place .row) || ltb 63 (p .«pattern_loop» .«start_row») || eqb (p .clock .speed) 0) (ltb (p .clock .tempo) 32) (b .0) in
-    let f = or-false (ltb 63 (p .place .row) || ltb 63 (p .«pattern_loop» .«start_row»)) (eqb (p .clock .speed) 0) (d .0) in
+    let z = or-false _ (leb (2 * p .clock .tempo) (p .clock .remainder)) e in
+    let a = or-false _ (rateBroken (p .clock .rate)) (z .0) in
+    let b = or-false _ (ltb (2 ^ 62) (p .clock .start)) (a .0) in
+    let d = or-false _ (ltb (p .clock .tempo) 32) (b .0) in
+    let f = or-false _ (eqb (p .clock .speed) 0) (d .0) in
     let g = or-false (ltb 63 (p .place .row)) (ltb 63 (p .«pattern_loop» .«start_row»)) (f .0) in
     let r = or-false (eqb (p .clock .rate) 0) (ltb 100000 (p .clock .rate)) (a .1) in (
       record {
@@ -49,6 +50,7 @@ path-parts p e =
         start-row = ltb-false 63 (p .«pattern_loop» .«start_row») (g .1);
         tempo = ltb-false (p .clock .tempo) 32 (d .1);
         rate = ltb-false 100000 (p .clock .rate) (r .1);
+        remainder = leb-false (2 * p .clock .tempo) (p .clock .remainder) (z .1);
       },
       ltb-false (2 ^ 62) (p .clock .start) (b .1),
       not-zero (p .clock .speed) (f .1),
@@ -86,6 +88,7 @@ rule-sound s e shaped =
       tempo = q .0 .tempo;
       moves = q .3;
       rate = q .0 .rate;
+      remainder = q .0 .remainder;
     }
 
 room-parts : (n room : ℕ) → roomRule n room ≡ 0 → (n ≤ 65535) × (536 * n ≤ room)

@@ -3,7 +3,7 @@ use Prim.Native.Nat.{ℕ, _+_, _*_}
 use mathlib.Core.List.{List, [], _∷_, _++_}
 use lib.Ieee.{binary32, toBits}
 use Rattle.tune.specs.Numbers.{bytesOf, flag}
-use Rattle.row_path.specs.Leave.{lengthOf}
+use Rattle.row_path.specs.Card.{lengthOf}
 use Rattle.row_path.specs.declared.machine.Entered.{Entered}
 use Rattle.channel.specs.declared.state.Channel.{Channel}
 use Rattle.channel.specs.declared.state.TriggerOption.{TriggerOption}

@@ -2,7 +2,7 @@
 use Prim.Native.Nat.{ℕ, zero, suc, _*_, _^_}
 use mathlib.Core.Bool.{Bool, false, _||_, not}
 use mathlib.Core.List.{List, [], _∷_, _++_}
-use lib.Dec.{eqb, ltb}
+use lib.Dec.{eqb, ltb, leb}
 use lib.Ieee.{isNan}
 use lib.ListN.{length, drop}
 use Rattle.laws.specs.Entries.{every}
@@ -16,11 +16,12 @@ use Rattle.section.specs.Tables.{Tables, tablesRule}
 use Rattle.section.specs.Records.{recordSize}
 use Rattle.section.specs.Walk.{Walked, walk}
 
--- row or loop start above 63, speed 0, tempo below 32, start above 2^62, rate as in 10
+-- row or loop start above 63, speed 0, tempo below 32, start above 2^62, rate as in 10; a remainder that is 2 × tempo or more
+-- (02, 2026-01)
 unfoldable pub pathBroken : Path → Bool
 pathBroken p =
     ltb 63 (p .place .row) || ltb 63 (p .«pattern_loop» .«start_row») || eqb (p .clock .speed) 0 || ltb (p .clock .tempo) 32
-    || ltb (2 ^ 62) (p .clock .start) || rateBroken (p .clock .rate)
+    || ltb (2 ^ 62) (p .clock .start) || rateBroken (p .clock .rate) || leb (2 * p .clock .tempo) (p .clock .remainder)
 
 -- a frequency or target that is not a number
 unfoldable pub channelBroken : Channel → Bool

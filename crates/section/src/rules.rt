@@ -21,6 +21,7 @@ fn path_broken(p: Path) -> bool
         | (p.clock.tempo < 32)
         | (0x4000_0000_0000_0000 < p.clock.start)
         | rate_broken(p.clock.rate)
+        | (2 * (p.clock.tempo as u16) <= p.clock.remainder)
 }
 
 fn channel_broken(c: Channel) -> bool

@@ -4,12 +4,9 @@ use Rattle.section.specs.Section.{pathBroken}
 use Rattle.section.proofs.rules.path_broken.Statement.{statement}
 use Rattle.section.proofs.rules.path_broken.Tie as tie
 
-rate-broken-requires : tie.Need-rate-broken-requires
-rate-broken-requires c κs = search needs
-
 returns : tie.Need-returns
 unfolding pathBroken
-returns c = simp (← c .rate-broken .ensures)
+returns c = simp (← c .before .before .rate-broken .ensures)
 
 pub path-broken-spec : {M : Type 1} → statement M
-path-broken-spec = tie.close (tie.spec rate-broken-requires returns)
+path-broken-spec = tie.close (tie.spec (λ c κs. search needs) (λ c. search needs) (λ c. search needs) returns)
