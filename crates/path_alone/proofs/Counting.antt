@@ -110,4 +110,4 @@ within orders tempo rate n e =
 
 pub from-bounded : (speed tempo rate : ℕ) → 32 ≤ tempo → rate ≤ 100000 → Bounded (firstPath speed tempo rate) × (firstPath speed tempo rate .clock .start ≡ 0)
 unfolding firstPath
-from-bounded speed tempo rate t r = (record { row = omega arith; start-row = omega arith; tempo = t; rate = r }, refl)
+from-bounded speed tempo rate t r = (record { row = omega arith; start-row = omega arith; tempo = t; rate = r; remainder = omega arith }, refl)

@@ -7,7 +7,7 @@ use lib.ListN.{length, getD, drop}
 use Rattle.laws.specs.Choice.{pick}
 use Rattle.laws.specs.Refusals.{Said, said}
 use Rattle.tune.specs.Numbers.{littleAt, flag}
-use Rattle.row_path.specs.Leave.{lengthOf}
+use Rattle.row_path.specs.Card.{lengthOf}
 use Rattle.row_path.specs.declared.machine.Entered.{Entered}
 use Rattle.section.specs.Records.{startAt, lengthAt}
 use Rattle.sheet.specs.Records.{recordRule, strikeCount}

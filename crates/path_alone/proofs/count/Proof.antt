@@ -19,7 +19,9 @@ returns : tie.Need-returns Inv-loop μ-loop
 returns c = count-ended _ _ _ _ _ _ (c .before .before .loop .inv) (c .if1 .taken)
 
 enter-requires : tie.Need-enter-requires Inv-loop μ-loop
-enter-requires c κs = (c .before .before .before .before .before .pre .0, omega (arith, c .before .before .loop .inv .bounded .row))
+enter-requires c κs =
+    let b = c .before .before .loop .inv .bounded in
+    (c .before .before .before .before .before .pre .0, omega (arith, b .row), b .remainder)
 
 returns-2 : tie.Need-returns-2 Inv-loop μ-loop
 returns-2 c =
