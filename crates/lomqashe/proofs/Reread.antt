@@ -9,12 +9,15 @@ use lib.ListN.{length, take, drop, length-drop}
 use lib.Seq.{length-take-le}
 use Rattle.laws.proofs.Pieces.{length-tabulate, tabulate-each}
 use Rattle.tune.specs.Numbers.{littleAt}
-use Rattle.tune.proofs.Little.{four, halves}
+use Rattle.tune.proofs.Little.{two, four, halves}
 use Rattle.row_path.specs.Sound.{Bytes}
 use Rattle.lomqashe.specs.Channels.{channelOf}
 use Rattle.lomqashe.specs.States.{pathOf, stateBytes, stateOf}
 use Rattle.lomqashe.specs.Typed.{TypedChannel, Typed}
 use Rattle.lomqashe.proofs.StateKept.{state-kept}
+
+two-small : (s : List ℕ) (at : ℕ) → Bytes s → littleAt 2 s at < 2 ^ 16
+two-small s at h = omega (arith, two s at, h at, h (at + 1))
 
 four-small : (s : List ℕ) (at : ℕ) → Bytes s → littleAt 4 s at < 2 ^ 32
 four-small s at h = omega (arith, four s at, h at, h (at + 1), h (at + 2), h (at + 3))
@@ -42,6 +45,7 @@ read-typed s h n =
     record {
       rate = four-small s 16 h;
       start = eight-small s 24 h;
+      remainder = two-small s 20 h;
       infos = part-length 32 32 s (omega (arith, n));
       count = length-tabulate 32 (λ i. channelOf (take 80 (drop (64 + i * 80) s)));
       each = λ d k b. tabulate-each TypedChannel 32 (λ i. channelOf (take 80 (drop (64 + i * 80) s))) (λ k b. channel-typed (take 80 (drop (64 + k * 80) s)) (part-length 80 (64 + k * 80) s (omega (arith, n, b)))) d k (subst (λ (m : ℕ). k < m) (length-tabulate 32 (λ i. channelOf (take 80 (drop (64 + i * 80) s)))) b);

@@ -29,20 +29,20 @@ head-length : (s : State) → length (headBytes s) ≡ 32
 unfolding headBytes bytesOf
 head-length s = refl
 
--- a path that is read field by field: options, flags, rate, start and S infos; the others are bytes
-path-read : (s : List ℕ) {o k : ByteOption} {held ended : Bool} {rate start : ℕ} {infos : List ℕ}
+-- a path that is read field by field: options, flags, rate, start, remainder and S infos; the others are bytes
+path-read : (s : List ℕ) {o k : ByteOption} {held ended : Bool} {rate start remainder : ℕ} {infos : List ℕ}
     → o ≡ optionOf (getD s 2 0) (getD s 3 0) → k ≡ optionOf (getD s 4 0) (getD s 5 0) → held ≡ isSet (getD s 8 0) → ended ≡ isSet (getD s 9 0)
-    → rate ≡ littleAt 4 s 16 → start ≡ littleAt 8 s 24 → infos ≡ take 32 (drop 32 s)
+    → rate ≡ littleAt 4 s 16 → start ≡ littleAt 8 s 24 → remainder ≡ littleAt 2 s 20 → infos ≡ take 32 (drop 32 s)
     → record {
       place = record { order = getD s 0 0; row = getD s 1 0 };
       «pattern_loop» = record { order = o; «start_row» = getD s 6 0; count = k };
       hold = record { left = getD s 7 0; held = held };
-      clock = record { speed = getD s 10 0; tempo = getD s 11 0; rate = rate; start = start };
+      clock = record { speed = getD s 10 0; tempo = getD s 11 0; rate = rate; start = start; remainder = remainder };
       ended = ended;
       «s_info» = infos;
     } ≡ pathOf s
 unfolding pathOf
-path-read s a b c d e f g = rw (a, b, c, d, e, f, g)
+path-read s a b c d e f g h = rw (a, b, c, d, e, f, g, h)
 
 infos-kept : (h m r : List ℕ) → length h ≡ 32 → length m ≡ 32 → m ≡ take 32 (drop 32 (h ++ m ++ r))
 infos-kept h m r a b = sym (rw (append-assoc h m r, drop-at h (m ++ r) 32 a) (take-at m r 32 b))
@@ -58,6 +58,7 @@ path-kept s h =
     (flag-kept (s .path .ended))
     (little-back 4 b _ 16 (s .path .clock .rate) (h .rate) refl)
     (little-back 8 b _ 24 (s .path .clock .start) (h .start) refl)
+    (little-back 2 b _ 20 (s .path .clock .remainder) (h .remainder) refl)
     (infos-kept (headBytes s) (s .path .«s_info») (inTurn channelBytes (s .channels)) (head-length s) (h .infos)))
 
 -- any channel, for entries that are not there

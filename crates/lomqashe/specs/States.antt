@@ -1,6 +1,6 @@
 -- A state as 2,624 bytes. Its head of 64: 0 order, 1 row, 2 loop order present, 3 loop order, 4 loop count present, 5 loop count,
 -- 6 loop start row, 7 hold left, 8 held, 9 ended, 10 speed, 11 tempo, 12 global volume, 13 Amiga limits, 14 fast slides, 15 spare,
--- 16 to 19 rate, 20 to 23 spare, 24 to 31 start, 32 to 63 the S infos. Then 32 channels of 80. Assumes nothing.
+-- 16 to 19 rate, 20 and 21 remainder, 22 and 23 spare, 24 to 31 start, 32 to 63 the S infos. Then 32 channels of 80. Assumes nothing.
 use Prim.Native.Nat.{ℕ, _+_, _*_}
 use mathlib.Core.List.{List, _∷_, _++_}
 use lib.Dec.{eqb}
@@ -36,7 +36,7 @@ headBytes s =
     ∷ s .path .«pattern_loop» .«start_row» ∷ s .path .hold .left ∷ flag (s .path .hold .held) ∷ flag (s .path .ended)
     ∷ s .path .clock .speed ∷ s .path .clock .tempo ∷ s .«global_volume»
     ∷ flag (s .switches .«amiga_limits») ∷ flag (s .switches .«fast_slides») ∷ 0
-    ∷ (bytesOf 4 (s .path .clock .rate) ++ (0 ∷ 0 ∷ 0 ∷ 0 ∷ bytesOf 8 (s .path .clock .start)))
+    ∷ (bytesOf 4 (s .path .clock .rate) ++ (bytesOf 2 (s .path .clock .remainder) ++ (0 ∷ 0 ∷ bytesOf 8 (s .path .clock .start))))
 
 unfoldable pub stateBytes : State → List ℕ
 stateBytes s = (headBytes s ++ s .path .«s_info») ++ inTurn channelBytes (s .channels)
@@ -48,7 +48,7 @@ pathOf s =
       place = record { order = getD s 0 0; row = getD s 1 0 };
       «pattern_loop» = record { order = optionOf (getD s 2 0) (getD s 3 0); «start_row» = getD s 6 0; count = optionOf (getD s 4 0) (getD s 5 0) };
       hold = record { left = getD s 7 0; held = isSet (getD s 8 0) };
-      clock = record { speed = getD s 10 0; tempo = getD s 11 0; rate = littleAt 4 s 16; start = littleAt 8 s 24 };
+      clock = record { speed = getD s 10 0; tempo = getD s 11 0; rate = littleAt 4 s 16; start = littleAt 8 s 24; remainder = littleAt 2 s 20 };
       ended = isSet (getD s 9 0);
       «s_info» = take 32 (drop 32 s);
     }

@@ -15,10 +15,11 @@ pub record TypedChannel (c : Channel) : Type 0 where
   pub position : T (fits binary64 (c .«sample_pos»))
   pub memory : length (c .«effect_memory») ≡ 32
 
--- a u32, a u64 and arrays of 32
+-- a u32, a u64, a u16 and arrays of 32
 pub record Typed (s : State) : Type 0 where
   pub rate : s .path .clock .rate < 2 ^ 32
   pub start : s .path .clock .start < 2 ^ 64
+  pub remainder : s .path .clock .remainder < 2 ^ 16
   pub infos : length (s .path .«s_info») ≡ 32
   pub count : length (s .channels) ≡ 32
   pub each : (d : Channel) (k : ℕ) → k < length (s .channels) → TypedChannel (getD (s .channels) k d)

@@ -1,6 +1,7 @@
 // The 2,624 bytes of a state. Its head of 64: 0 order, 1 row, 2 loop order present, 3 loop order, 4 loop count present, 5
 // loop count, 6 loop start row, 7 hold left, 8 held, 9 ended, 10 speed, 11 tempo, 12 global volume, 13 Amiga limits, 14
-// fast slides, 15 spare, 16 to 19 rate, 20 to 23 spare, 24 to 31 start, 32 to 63 the S infos. Then 32 channels of 80.
+// fast slides, 15 spare, 16 to 19 rate, 20 and 21 remainder, 22 and 23 spare, 24 to 31 start, 32 to 63 the S infos. Then
+// 32 channels of 80.
 ghost use mathlib.Core.Path.{_≡_};
 ghost use lib.ListN.{length};
 ghost use Rattle.lomqashe.specs.States.{optionOf, headBytes, stateBytes, pathOf, stateOf};
@@ -20,6 +21,8 @@ use row_path::option::ByteOption;
 use row_path::option::or_before;
 use section::state::State;
 use tune::numbers::flag_of;
+use tune::numbers::u16_at;
+use tune::numbers::u16_bytes;
 use tune::numbers::u32_at;
 use tune::numbers::u32_bytes;
 use tune::numbers::u64_at;
@@ -52,6 +55,7 @@ fn head_bytes(s: State) -> [u8; 32]
     let lo = l.order;
     let count = l.count;
     let r = u32_bytes(path.clock.rate);
+    let m = u16_bytes(path.clock.remainder);
     let t = u64_bytes(path.clock.start);
     [
         path.place.order,
@@ -74,8 +78,8 @@ fn head_bytes(s: State) -> [u8; 32]
         r[1],
         r[2],
         r[3],
-        0,
-        0,
+        m[0],
+        m[1],
         0,
         0,
         t[0],
@@ -130,6 +134,7 @@ fn path_of(s: &[u8]) -> Path
             tempo: s[11],
             rate: u32_at(s, 16),
             start: u64_at(s, 24),
+            remainder: u16_at(s, 20) as u16,
         },
         ended: is_set(s[9]),
         s_info: infos,

@@ -41,6 +41,14 @@ pub fn u64_at(s: &[u8], at: usize) -> u64
     u32_at(s, at) as u64 + u32_at(s, at + 4) as u64 * 4294967296
 }
 
+// The two bytes of a number.
+pub fn u16_bytes(x: u16) -> [u8; 2]
+    ensures { λ r. ⌜ r ≡ bytesOf 2 x ⌝ }
+{
+    let x1 = x / 256;
+    [(x % 256) as u8, (x1 % 256) as u8]
+}
+
 // The four bytes of a number.
 pub fn u32_bytes(x: u32) -> [u8; 4]
     ensures { λ r. ⌜ r ≡ bytesOf 4 x ⌝ }
