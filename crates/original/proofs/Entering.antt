@@ -17,7 +17,7 @@ use Rattle.row_path.specs.Option.{isAt}
 use Rattle.row_path.specs.Orders.{skipped, patternAt}
 use Rattle.row_path.specs.Scan.{scanned, firstScan}
 use Rattle.row_path.specs.Loops.{scoped, jumpOf, turns, again, requested, looped}
-use Rattle.row_path.specs.Enter.{endedAt, arrived, paced, delayed, settled, loopedBy, acted, visited, enteredAt, entered}
+use Rattle.row_path.specs.Enter.{endedAt, arrived, clockAt, paced, delayed, settled, loopedBy, acted, visited, enteredAt, entered}
 use Rattle.row_path.specs.Sound.{Bytes}
 use Rattle.row_path.specs.declared.option.ByteOption.{ByteOption}
 use Rattle.row_path.specs.declared.option.ByteOption.the-variants.{None, Some}
@@ -173,7 +173,7 @@ module _ (t : Tables) (s : State) (sized : Sized (t .orders) (t .cells) (t .samp
       (strikeMask row (a .«s_info») (t .samples) w g cs)
 
   concluded : conclude (after .a) (written after start) ≡ playedBy (scanned row 32 (firstScan (p .«s_info»)))
-  unfolding written playerOf settled delayed paced loopedBy
+  unfolding written playerOf settled delayed clockAt paced loopedBy
   concluded =
       conclude-same (after .a) (written after start) refl
       ∙ (λ i. put (channels-same i) (o .volume i) (strikes-same i) (sym (looped-order (found .«row_loop_request») (p .place) (p .«pattern_loop») (jumpOf (found .«jump_row») (found .«jump_order»))) i))

@@ -19,7 +19,7 @@ use Rattle.original.specs.New.{«Channel::default»}
 use Rattle.original.specs.Player.{«enter_row», «next_row»}
 use Rattle.original.specs.State.{PlayerState}
 use Rattle.original.specs.Map.{songOf, playerOf, stateMap, rowFrom, patternThere, enteredMap}
-use Rattle.original.specs.Turns.{turns, recordRead, ReadOff}
+use Rattle.original.specs.Turns.{turns, clockAtRow, recordRead, ReadOff}
 use Rattle.original.specs.Call.{readFor, inFront, AsOriginal}
 use Rattle.original.proofs.Entering.{entering-same}
 use Rattle.original.proofs.Leaving.{leaving-same}
@@ -47,13 +47,14 @@ walk-equal t n s nine eleven bytes shaped =
 -- Records: where there is a pattern to enter, a row's record is what is read off the Rust's state once it has entered the row; here
 -- too the state may have ended before
 pub record-equal : (t : Tables) (s : State) → tablesRule t ≡ 0 → stateRule s ≡ 0 → ByteTables t → Shaped s → patternThere t (s .path) ≡ true
-    → recordRead (songOf t (s .switches)) (s .path .clock .rate) (s .path .clock .start) («enter_row» (songOf t (s .switches)) (stateMap s)) ≡ recordOf t (s .switches) (rowFrom t s) (voicesOf s)
+    → recordRead (songOf t (s .switches)) (clockAtRow (s .path .clock) («enter_row» (songOf t (s .switches)) (stateMap s))) («enter_row» (songOf t (s .switches)) (stateMap s)) ≡ recordOf t (s .switches) (rowFrom t s) (voicesOf s)
 record-equal t s nine eleven bytes shaped there =
-    ap (recordRead (songOf t (s .switches)) (s .path .clock .rate) (s .path .clock .start)) (enter-row-equal t s nine eleven bytes shaped) ∙ record-read t s there
+    ap (λ (z : PlayerState). recordRead (songOf t (s .switches)) (clockAtRow (s .path .clock) z) z) (enter-row-equal t s nine eleven bytes shaped)
+    ∙ record-read t s (rule-sound s eleven shaped .remainder) there
 
--- and the records of our walk, with the card start behind them, are those read off up to n turns of the Rust
+-- and the records of our walk, with the clock behind them, are those read off up to n turns of the Rust
 pub records-equal : (t : Tables) (n : ℕ) (s : State) → tablesRule t ≡ 0 → stateRule s ≡ 0 → ByteTables t → Shaped s
-    → readFor t s n ≡ record { records = walk t n s .records; start = walk t n s .state .path .clock .start }
+    → readFor t s n ≡ record { records = walk t n s .records; clock = walk t n s .state .path .clock }
 records-equal t n s nine eleven bytes shaped =
     reads-equal t (sized (t .orders) (t .cells) (t .samples) nine) bytes n s shaped (rule-sound s eleven shaped)
 
@@ -76,5 +77,5 @@ call-equal t s n before after r answer written typed taken =
       ended = ap (λ (a : Sectioned). a .ended) is ∙ ap (λ (p : PlayerState). p .ended) turned;
       switches = ap (λ (a : Sectioned). a .state .switches) is ∙ walk-keeps t n s .0;
       rate = ap (λ (a : Sectioned). a .state .path .clock .rate) is ∙ walk-keeps t n s .1;
-      start = ap (λ (a : Sectioned). a .state .path .clock .start) is ∙ ap (λ (x : ReadOff). x .start) read;
+      clock = ap (λ (a : Sectioned). a .state .path .clock) is ∙ ap (λ (x : ReadOff). x .clock) read;
     }

@@ -1,5 +1,5 @@
 -- The record of a row is what is read off the Rust's state. Assumes nothing.
-use Prim.Native.Nat.{ℕ, suc, _*_, _/_}
+use Prim.Native.Nat.{ℕ, suc, _*_, _<_}
 use mathlib.Core.Path.{_≡_, refl, sym, ap, _∙_}
 use mathlib.Core.Bool.{Bool, true, false, false≢true}
 use mathlib.Core.List.{List, [], _∷_, _++_}
@@ -11,12 +11,12 @@ use Rattle.laws.proofs.Picks.{choice}
 use Rattle.tune.specs.Sizes.{patternCount}
 use Rattle.row_path.specs.Orders.{skipped, patternAt}
 use Rattle.row_path.specs.Enter.{arrived, settled, acted, visited, enteredAt, entered}
-use Rattle.row_path.specs.Leave.{lengthOf}
+use Rattle.row_path.specs.Card.{lengthOf}
 use Rattle.row_path.specs.declared.option.ByteOption.{ByteOption}
 use Rattle.row_path.specs.declared.option.ByteOption.the-variants.{None, Some}
 use Rattle.row_path.specs.declared.machine.Path.{Path}
 use Rattle.row_path.specs.declared.machine.Entered.{Entered}
-use Rattle.row_path.proofs.Unmoved.{entered-clock}
+use Rattle.row_path.proofs.Drift.{entered-at}
 use Rattle.channel.specs.declared.state.Channel.{Channel}
 use Rattle.section.specs.Tables.{Tables}
 use Rattle.tune.specs.Numbers.{bytesOf, flag}
@@ -25,7 +25,7 @@ use Rattle.section.specs.Machines.{rowPlayed, recordOf}
 use Rattle.section.specs.Walk.{voicesOf}
 use Rattle.section.specs.declared.state.State.{State}
 use Rattle.original.specs.Map.{songOf, rustChannel, rustChannels, playerOf, rowFrom, isSome, patternThere, enteredMap}
-use Rattle.original.specs.Turns.{rowLength, recordRead}
+use Rattle.original.specs.Turns.{clockAtRow, recordRead}
 use Rattle.original.proofs.Leaving.{map-played}
 
 -- a record does not show a channel's memory
@@ -69,24 +69,21 @@ module _ (t : Tables) (s : State) where
   unfolding entered
   pattern-named g = named-by (t .orders) (t .cells) (s .path) (patternCount (t .cells)) (skipped (t .orders) (s .path .place .order)) _ refl g
 
-  -- the length of the row
-  pub length-read : patternThere t (s .path) ≡ true → rowLength (s .path .clock .rate) (enteredMap t s e) ≡ lengthOf (e .path .clock)
-  unfolding playerOf lengthOf
-  length-read g =
-      ap (rowLength (s .path .clock .rate)) (map-played t s g)
-      ∙ ap (λ (r : ℕ). e .path .clock .speed * 5 * r / (2 * e .path .clock .tempo)) (sym (entered-clock (t .orders) (t .cells) (s .path) .0))
+  -- the clock of the row
+  pub clock-read : s .path .clock .remainder < 2 * s .path .clock .tempo → patternThere t (s .path) ≡ true → clockAtRow (s .path .clock) (enteredMap t s e) ≡ e .path .clock
+  unfolding playerOf
+  clock-read h g = ap (clockAtRow (s .path .clock)) (map-played t s g) ∙ sym (entered-at (t .orders) (t .cells) (s .path) h)
 
   -- the record of the row
-  pub record-read : patternThere t (s .path) ≡ true → recordRead (songOf t (s .switches)) (s .path .clock .rate) (s .path .clock .start) (enteredMap t s e) ≡ recordOf t (s .switches) e (voicesOf s)
-  unfolding recordRead songOf playerOf recordOf recordBytes rowHead lengthOf
-  record-read g =
-      ap (recordRead (songOf t (s .switches)) (s .path .clock .rate) (s .path .clock .start)) (map-played t s g)
-      ∙ (λ i. shown (sym (pattern-named g) i) (sym (entered-clock (t .orders) (t .cells) (s .path) .1) i) (sym (entered-clock (t .orders) (t .cells) (s .path) .0) i)
-      (rust-bytes (rowPlayed t (s .switches) e (voicesOf s) .channels) (e .path .«s_info») i))
+  pub record-read : s .path .clock .remainder < 2 * s .path .clock .tempo → patternThere t (s .path) ≡ true → recordRead (songOf t (s .switches)) (clockAtRow (s .path .clock) (enteredMap t s e)) (enteredMap t s e) ≡ recordOf t (s .switches) e (voicesOf s)
+  unfolding recordRead songOf playerOf recordOf recordBytes rowHead
+  record-read h g =
+      (λ i. recordRead (songOf t (s .switches)) (clock-read h g i) (map-played t s g i))
+      ∙ (λ i. shown (sym (pattern-named g) i) (rust-bytes (rowPlayed t (s .switches) e (voicesOf s) .channels) (e .path .«s_info») i))
     where
-      shown : ℕ → ℕ → ℕ → List ℕ → List ℕ
-      shown pattern start rate channels =
+      shown : ℕ → List ℕ → List ℕ
+      shown pattern channels =
           (e .path .place .order ∷ pattern ∷ e .path .place .row ∷ flag (e .path .hold .held)
           ∷ e .path .clock .speed ∷ e .path .clock .tempo ∷ s .«global_volume» ∷ 0
-          ∷ (bytesOf 8 start ++ (bytesOf 4 (rowPlayed t (s .switches) e (voicesOf s) .strikes) ++ bytesOf 4 (e .path .clock .speed * 5 * rate / (2 * e .path .clock .tempo)))))
+          ∷ (bytesOf 8 (e .path .clock .start) ++ (bytesOf 4 (rowPlayed t (s .switches) e (voicesOf s) .strikes) ++ bytesOf 4 (lengthOf (e .path .clock)))))
           ++ channels

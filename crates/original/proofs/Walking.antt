@@ -1,5 +1,5 @@
 -- The two walks side by side: a state that is accepted gives the same states and the same records row by row. Assumes nothing.
-use Prim.Native.Nat.{ℕ, zero, suc, _+_}
+use Prim.Native.Nat.{ℕ, zero, suc}
 use mathlib.Core.Path.{_≡_, refl, sym, ap, _∙_}
 use mathlib.Core.Bool.{Bool, true, false, false≢true}
 use mathlib.Core.List.{List}
@@ -7,7 +7,7 @@ use Rattle.laws.specs.Choice.{pick}
 use Rattle.laws.proofs.Picks.{choice, chain}
 use Rattle.tune.proofs.Sized.{Sized}
 use Rattle.row_path.specs.Enter.{endedAt, arrived, settled, acted, visited, enteredAt, entered}
-use Rattle.row_path.specs.Leave.{lengthOf, ticked, left}
+use Rattle.row_path.specs.Leave.{ticked, left}
 use Rattle.row_path.specs.Sound.{Sound}
 use Rattle.row_path.specs.Walk.{Stop, Row, turnBy, turn, more, onward, pathWalk}
 use Rattle.row_path.specs.declared.option.ByteOption.{ByteOption}
@@ -16,7 +16,8 @@ use Rattle.row_path.specs.declared.loops.Jump.the-variants.{Stay}
 use Rattle.row_path.specs.declared.machine.Clock.{Clock}
 use Rattle.row_path.specs.declared.machine.Path.{Path}
 use Rattle.row_path.specs.declared.machine.Entered.{Entered}
-use Rattle.row_path.proofs.Unmoved.{entered-clock, left-clock, left-start}
+use Rattle.row_path.proofs.Drift.{ending-clock}
+use Rattle.row_path.proofs.Unmoved.{entered-clock, left-clock}
 use Rattle.row_path.proofs.Walks.{turn-kinds}
 use Rattle.section.specs.Tables.{Tables}
 use Rattle.section.specs.Machines.{rowPlayed, recordOf}
@@ -33,7 +34,7 @@ use Rattle.original.specs.Call.{readFor}
 use Rattle.original.proofs.Arms.{first, second}
 use Rattle.original.proofs.Entering.{entering-same}
 use Rattle.original.proofs.Leaving.{going-there, map-played, leaving-same, behind}
-use Rattle.original.proofs.Reading.{length-read, record-read}
+use Rattle.original.proofs.Reading.{clock-read, record-read}
 use Rattle.original.proofs.Staying.{behind-sound, behind-shaped}
 
 -- a row that ended the tune leaves the channels, and no jump waits
@@ -77,7 +78,7 @@ walk-keeps t n s =
 
 -- what our walk gives to be read
 abbrev pub readOff : Walked → ReadOff
-readOff w = record { records = w .records; start = w .state .path .clock .start }
+readOff w = record { records = w .records; clock = w .state .path .clock }
 
 module _ (t : Tables) (rule : Sized (t .orders) (t .cells) (t .samples)) (bytes : ByteTables t) where
   -- a row that was entered, and what the walks do from there
@@ -134,40 +135,31 @@ module _ (t : Tables) (rule : Sized (t .orders) (t .cells) (t .samples)) (bytes 
   unfolding enteredMap playerOf
   entered-ended s = chain (λ (z : PlayerState). z .ended) (patternThere t (s .path)) (λ _. refl) (λ _. refl)
 
-  -- rate and card start behind a row
-  behind-rate : (s : State) → behind t s .path .clock .rate ≡ s .path .clock .rate
+  -- the clock behind a row
+  behind-clock : (s : State) → behind t s .path .clock ≡ ticked (rowFrom t s .path .clock)
   unfolding stateWith
-  behind-rate s = rate-left t (s .path)
+  behind-clock s = left-clock (t .orders) (rowFrom t s)
 
-  behind-start : (s : State) → behind t s .path .clock .start ≡ s .path .clock .start + lengthOf (rowFrom t s .path .clock)
-  unfolding stateWith
-  behind-start s =
-      left-start (t .orders) (rowFrom t s)
-      ∙ ap (λ (n : ℕ). n + lengthOf (rowFrom t s .path .clock)) (entered-clock (t .orders) (t .cells) (s .path) .1)
-
-  read-on : (n : ℕ) (s : State) → s .path .ended ≡ false → readFor t (behind t s) n ≡ readOff (walk t n (behind t s))
-      → readFrom (rowsRead (songOf t (s .switches)) (s .path .clock .rate) n) (songOf t (s .switches)) (s .path .clock .rate) (s .path .clock .start) (enteredMap t s (rowFrom t s))
+  read-on : (n : ℕ) (s : State) → Sound (s .path) → s .path .ended ≡ false → readFor t (behind t s) n ≡ readOff (walk t n (behind t s))
+      → readFrom (rowsRead (songOf t (s .switches)) n) (songOf t (s .switches)) (s .path .clock) (enteredMap t s (rowFrom t s))
       ≡ readOff (goOn (stepBy t s (turnBy (t .orders) (rowFrom t s))) (walk t n))
   unfolding oneRead readFrom turnBy stepBy goOn onto stateWith
-  read-on n s g more = by (rowFrom t s .path .ended) refl
+  read-on n s sound g more = by (rowFrom t s .path .ended) refl
     where
       m : Song
       m = songOf t (s .switches)
 
-      r : ℕ
-      r = s .path .clock .rate
-
       by : (b : Bool) → rowFrom t s .path .ended ≡ b
-          → readFrom (rowsRead m r n) m r (s .path .clock .start) (enteredMap t s (rowFrom t s))
+          → readFrom (rowsRead m n) m (s .path .clock) (enteredMap t s (rowFrom t s))
           ≡ readOff (goOn (stepBy t s (pick b (Stop (rowFrom t s .path)) (Row (rowFrom t s) (left (t .orders) (rowFrom t s))))) (walk t n))
       by true e =
-          first (enteredMap t s (rowFrom t s) .ended) _ (entered-ended s ∙ e) (ap noneRead (sym (entered-clock (t .orders) (t .cells) (s .path) .1)))
+          first (enteredMap t s (rowFrom t s) .ended) _ (entered-ended s ∙ e) (ap noneRead (sym (ending-clock (t .orders) (t .cells) (s .path) g e)))
       by false e =
           let there = going-there t s e in
           second (enteredMap t s (rowFrom t s) .ended) _ (entered-ended s ∙ e)
-          ((λ i. oneRead (record-read t s there i) (rowsRead m r n (s .path .clock .start + length-read t s there i) (leaving-same t s there i)))
+          ((λ i. oneRead (record-read t s (sound .remainder) there i) (rowsRead m n (ticked (clock-read t s (sound .remainder) there i)) (leaving-same t s there i)))
           ∙ ap (oneRead (recordOf t (s .switches) (rowFrom t s) (voicesOf s)))
-          ((λ i. rowsRead m (sym (behind-rate s) i) n (sym (behind-start s) i) (stateMap (behind t s))) ∙ more))
+          ((λ i. rowsRead m n (sym (behind-clock s) i) (stateMap (behind t s))) ∙ more))
 
   ended-reads : (n : ℕ) (s : State) → s .path .ended ≡ true → readFor t s (suc n) ≡ readOff (goOn (stepBy t s (Stop (s .path))) (walk t n))
   unfolding rowsRead playerOf goOn stepBy stateWith
@@ -178,11 +170,11 @@ module _ (t : Tables) (rule : Sized (t .orders) (t .cells) (t .samples)) (bytes 
   unfolding rowsRead playerOf
   going-reads n s shaped sound e more =
       second (s .path .ended) _ e
-      (ap (readFrom (rowsRead (songOf t (s .switches)) (s .path .clock .rate) n) (songOf t (s .switches)) (s .path .clock .rate) (s .path .clock .start))
+      (ap (readFrom (rowsRead (songOf t (s .switches)) n) (songOf t (s .switches)) (s .path .clock))
       (entering-same t s rule bytes (shaped .channels) (λ i. shaped .channel i «Channel::default») (shaped .infos) (sound .row))
-      ∙ read-on n s e more)
+      ∙ read-on n s sound e more)
 
-  -- records and card starts
+  -- records, and the clock behind them
   pub reads-equal : (n : ℕ) (s : State) → Shaped s → Sound (s .path) → readFor t s n ≡ readOff (walk t n s)
   unfolding rowsRead walk step turn
   reads-equal zero s shaped sound = refl

@@ -16,9 +16,9 @@ use Rattle.original.specs.Turns.{turns, ReadOff, rowsRead}
 abbrev pub turnsFrom : Tables → State → ℕ → PlayerState
 turnsFrom t s n = turns (songOf t (s .switches)) n (stateMap s)
 
--- and what is read off these rows, at the state's rate and from its card start on
+-- and what is read off these rows, with the state's clock from its card start on
 abbrev pub readFor : Tables → State → ℕ → ReadOff
-readFor t s n = rowsRead (songOf t (s .switches)) (s .path .clock .rate) n (s .path .clock .start) (stateMap s)
+readFor t s n = rowsRead (songOf t (s .switches)) n (s .path .clock) (stateMap s)
 
 -- records in front of the bytes that an output had behind them
 abbrev pub inFront : List (List ℕ) → List ℕ → List ℕ
@@ -34,7 +34,7 @@ pub record AsOriginal (t : Tables) (s : State) (n : ℕ) (before after : List �
   pub rows : r .rows ≡ length (readFor t s n .records)
   -- it says 'ended' exactly where the Rust's state says so behind these rows
   pub ended : r .ended ≡ turnsFrom t s n .ended
-  -- what the map leaves out: the switches and the rate are kept, and the card stands behind the rows
+  -- what the map leaves out: the switches and the rate are kept, and the card stands behind the rows, with its remainder
   pub switches : r .state .switches ≡ s .switches
   pub rate : r .state .path .clock .rate ≡ s .path .clock .rate
-  pub start : r .state .path .clock .start ≡ readFor t s n .start
+  pub clock : r .state .path .clock ≡ readFor t s n .clock
