@@ -8,8 +8,9 @@ use Rattle.row_path.specs.First.{firstPath}
 use Rattle.row_path.specs.Orders.{skipFrom, skipped, patternAt}
 use Rattle.row_path.specs.Scan.{scanRow, scanLoop, scanInfo, special, specialAt, heard, scanned, firstScan}
 use Rattle.row_path.specs.Loops.{scoped, again, requested, looped}
-use Rattle.row_path.specs.Enter.{endedAt, arrived, paced, delayed, settled, loopedBy, acted, visited, enteredAt, entered}
-use Rattle.row_path.specs.Leave.{lengthOf, ticked, heldOn, goneOn, left}
+use Rattle.row_path.specs.Enter.{endedAt, arrived, clockAt, paced, delayed, settled, loopedBy, acted, visited, enteredAt, entered}
+use Rattle.row_path.specs.Card.{rescaled, lengthOf, restOf}
+use Rattle.row_path.specs.Leave.{ticked, heldOn, goneOn, left}
 use Rattle.row_path.specs.Walk.{turnBy, turn, more, onward, pathWalk}
 use Rattle.pitch.specs.Periods.{periodOf, noteNumber}
 use Rattle.pitch.specs.Frequency.{narrowed, periodAt, frequencyOf, noteFrequency}
@@ -24,5 +25,5 @@ use Rattle.channel.specs.Row.{delivered, relatched, finished, channelEntered}
 use Rattle.examples.specs.Marked.{walked, pattern, rowsOf, endsAt, after, examples}
 
 pub marked : T (every (λ i b. b) 0 examples)
-unfolding examples walked pattern rowsOf endsAt after firstPath eq skipFrom skipped patternAt scanRow scanLoop scanInfo special specialAt heard scanned firstScan scoped again requested looped endedAt arrived paced delayed settled loopedBy acted visited enteredAt entered lengthOf ticked heldOn goneOn left turnBy turn more onward pathWalk rowCells cellOf noteFrequency frequencyOf periodAt periodOf noteNumber narrowed div ofInt offsetOf openedChannel withRow withVolume withLatch withPan volumeSlid resumes hasMemory slotOf recalled stored begun sampleOf loaded slidBack noted volumed volumedAfter playCell commanded delivered relatched finished channelEntered
+unfolding examples walked pattern rowsOf endsAt after firstPath eq skipFrom skipped patternAt scanRow scanLoop scanInfo special specialAt heard scanned firstScan scoped again requested looped endedAt arrived clockAt paced delayed settled loopedBy acted visited enteredAt entered rescaled lengthOf restOf ticked heldOn goneOn left turnBy turn more onward pathWalk rowCells cellOf noteFrequency frequencyOf periodAt periodOf noteNumber narrowed div ofInt offsetOf openedChannel withRow withVolume withLatch withPan volumeSlid resumes hasMemory slotOf recalled stored begun sampleOf loaded slidBack noted volumed volumedAfter playCell commanded delivered relatched finished channelEntered
 marked = tt

@@ -7,7 +7,7 @@ use lib.Ieee.{fin, eq}
 use lib.IntN.{pos}
 use lib.ListN.{replicate, set}
 use Rattle.row_path.specs.First.{firstPath}
-use Rattle.row_path.specs.Leave.{lengthOf}
+use Rattle.row_path.specs.Card.{lengthOf}
 use Rattle.row_path.specs.Walk.{Walk, pathWalk}
 use Rattle.pitch.specs.Frequency.{noteFrequency}
 use Rattle.pitch.specs.Offset.{offsetOf}
@@ -73,8 +73,8 @@ examples =
     ∷ eqb (offsetOf 512 true 100 300 300) 112
     -- offset 512, loop 100 to 300, length 299: 512
     ∷ eqb (offsetOf 512 true 100 300 299) 512
-    -- length at speed 255, tempo 32, rate 100,000: 1,992,187
-    ∷ eqb (lengthOf (record { speed = 255; tempo = 32; rate = 100000; start = 0 })) 1992187
+    -- length at speed 255, tempo 32, rate 100,000: 1,992,187; at remainder 0 (02, 2026-01)
+    ∷ eqb (lengthOf (record { speed = 255; tempo = 32; rate = 100000; start = 0; remainder = 0 })) 1992187
     -- orders FE FF: ended at order 1
     ∷ endsAt 1 (walked (0xFE ∷ 0xFF ∷ []) [] 1)
     -- SB2 on row 4: rows 0 to 4 three times

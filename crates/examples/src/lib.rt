@@ -1,1 +1,1 @@
-// Document 01's marked examples, one theorem over a list of them. No code of its own.
+// Document 01's marked examples, one theorem over a list of them, and an example of 02's card. No code of its own.

@@ -7,7 +7,7 @@ use lib.ListN.{length, getD, take, drop}
 use lib.Seq.{take-at, drop-at, drop-drop}
 use Rattle.laws.specs.Masks.{bitOf}
 use Rattle.tune.specs.Numbers.{bytesOf, flag}
-use Rattle.row_path.specs.Leave.{lengthOf}
+use Rattle.row_path.specs.Card.{lengthOf}
 use Rattle.row_path.specs.declared.machine.Entered.{Entered}
 use Rattle.channel.specs.declared.state.Channel.{Channel}
 use Rattle.section.specs.Records.{rowHead, channelBytes, channelsBytes, recordBytes}

@@ -17,8 +17,9 @@ use Rattle.row_path.specs.Sound.{Bytes}
 use Rattle.row_path.specs.Orders.{skipFrom, skipped, patternAt}
 use Rattle.row_path.specs.Scan.{heard, scanned, firstScan}
 use Rattle.row_path.specs.Loops.{scoped, looped}
-use Rattle.row_path.specs.Enter.{endedAt, arrived, paced, delayed, settled, loopedBy, acted, visited, enteredAt, entered}
-use Rattle.row_path.specs.Leave.{lengthOf, ticked, heldOn, goneOn, left}
+use Rattle.row_path.specs.Enter.{endedAt, arrived, clockAt, paced, delayed, settled, loopedBy, acted, visited, enteredAt, entered}
+use Rattle.row_path.specs.Card.{rescaled, lengthOf, restOf}
+use Rattle.row_path.specs.Leave.{ticked, heldOn, goneOn, left}
 use Rattle.row_path.specs.Walk.{turnBy, turn, more, onward, pathWalk, rowsLeft}
 use Rattle.channel.specs.Play.{noteOn, noted, volumedAfter, playCell}
 use Rattle.channel.specs.Row.{delivered, finished, channelEntered}
@@ -170,7 +171,7 @@ example = channel-kept 0 first second calls first-lent second-lent first-opens s
 
 -- the path machine has 64 rows
 pub rows-there : rowsLeft (first .tables .orders) (first .tables .cells) 200 (opened first .path) ≡ 64
-unfolding plain empty freshState firstPath skipFrom skipped patternAt heard scanned firstScan scoped looped endedAt arrived paced delayed settled loopedBy acted visited enteredAt entered lengthOf ticked heldOn goneOn left turnBy turn more onward pathWalk rowsLeft rowCells cellOf
+unfolding plain empty freshState firstPath skipFrom skipped patternAt heard scanned firstScan scoped looped endedAt arrived clockAt paced delayed settled loopedBy acted visited enteredAt entered rescaled lengthOf restOf ticked heldOn goneOn left turnBy turn more onward pathWalk rowsLeft rowCells cellOf
 rows-there = refl
 
 -- the first record of channel 1, which was re-voiced, differs: no note there, and a note

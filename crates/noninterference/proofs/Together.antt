@@ -10,7 +10,7 @@ use Rattle.laws.specs.Choice.{pick}
 use Rattle.laws.specs.Masks.{bitOf}
 use Rattle.tune.specs.Sizes.{patternCount}
 use Rattle.tune.specs.Cells.{rowCells}
-use Rattle.row_path.specs.Leave.{lengthOf}
+use Rattle.row_path.specs.Card.{lengthOf}
 use Rattle.row_path.specs.declared.machine.Entered.{Entered}
 use Rattle.channel.specs.Row.{channelEntered}
 use Rattle.channel.specs.Channels.{enteredAt, volumeAfter, rowEntered, rowVisited}
