@@ -2,6 +2,7 @@
 //! private functions and fields.
 
 use super::{Channel, PlayerState};
+use crate::card::Card;
 use crate::header::parse_header;
 use crate::layout::{self, Layout};
 use crate::pattern::{Cell, Pattern};
@@ -15,8 +16,7 @@ const UNTOUCHED: u64 = 0x7FF8_5354_5249_4B45;
 /// The original's player on one tune, with what the border's state has beside it.
 pub struct Original {
     player: PlayerState,
-    rate: u32,
-    start: u64,
+    card: Card,
     kept: Kept,
 }
 
@@ -29,7 +29,7 @@ impl Original {
         let mut player = PlayerState::new(&header, samples, patterns, SAMPLE_RATE);
         player.order.clone_from(&tune.orders);
         player.channels = vec![Channel::default(); CHANNELS];
-        Original { player, rate: 1, start: 0, kept: [[0; 6]; CHANNELS] }
+        Original { player, card: Card::default(), kept: [[0; 6]; CHANNELS] }
     }
 
     /// Up to `limit` rows from a state on by the player alone; how many there were. For timing.
@@ -59,7 +59,7 @@ impl Original {
     }
 
     /// The record of the next row, unless the tune has ended. The channels that are not struck have their sample position
-    /// again.
+    /// again. The tempo is the row's as a whole: how many T cells changed it does not matter to the card.
     fn enter_row(&mut self) -> Option<Record> {
         if self.player.ended {
             return None;
@@ -68,7 +68,9 @@ impl Original {
         for channel in &mut self.player.channels {
             channel.sample_pos = f64::from_bits(UNTOUCHED);
         }
+        let tempo = self.player.bpm;
         self.player.enter_row();
+        self.card.change_tempo(tempo, self.player.bpm);
         let mut strikes = 0;
         for (i, channel) in self.player.channels.iter_mut().enumerate() {
             if channel.sample_pos.to_bits() == UNTOUCHED {
@@ -89,14 +91,8 @@ impl Original {
 
     /// The same, and the card goes on.
     fn leave_row_timed(&mut self) {
-        self.start += u64::from(self.row_length());
+        self.card.leave(self.player.speed, self.player.bpm);
         self.leave_row();
-    }
-
-    /// 01's row length: speed * 5 * rate / (2 * tempo), cut down.
-    fn row_length(&self) -> u32 {
-        let units = u64::from(self.player.speed) * 5 * u64::from(self.rate);
-        (units / (2 * u64::from(self.player.bpm))) as u32
     }
 
     /// The record of the row entered: its head of 24 bytes, then 32 channels of 16.
@@ -105,11 +101,12 @@ impl Original {
         let (head, channels) = out.split_at_mut(24);
         let pattern = player.order[usize::from(player.order_index)];
         let held = player.replaying_for_pattern_delay.into();
+        let length = self.card.length(player.speed, player.bpm);
         head[..4].copy_from_slice(&[player.order_index, pattern, player.row, held]);
         head[4..8].copy_from_slice(&[player.speed, player.bpm, player.global_volume, 0]);
-        head[8..16].copy_from_slice(&self.start.to_le_bytes());
+        head[8..16].copy_from_slice(&self.card.start.to_le_bytes());
         head[16..20].copy_from_slice(&strikes.to_le_bytes());
-        head[20..24].copy_from_slice(&self.row_length().to_le_bytes());
+        head[20..24].copy_from_slice(&length.to_le_bytes());
         for (ch, part) in player.channels.iter().zip(channels.chunks_exact_mut(16)) {
             let delay = ch.pending_delay.map_or(0, |delay| delay.fire_tick);
             part[..4].copy_from_slice(&ch.frequency.to_le_bytes());
@@ -140,7 +137,7 @@ impl Original {
         layout.bytes([&mut player.speed, &mut player.bpm, &mut player.global_volume]);
         layout.flags([&mut player.amiga_limits, &mut player.fast_slides]);
         layout.next([0; 1]);
-        lay_rest(layout, &mut self.rate, &mut self.start, &mut player.channels, &mut self.kept);
+        lay_rest(layout, &mut self.card, &mut player.channels, &mut self.kept);
     }
 }
 
@@ -158,7 +155,7 @@ pub fn open(tune: &Tune) -> State {
         speed: opening.speed,
         bpm: opening.tempo,
         global_volume: opening.global_volume,
-        rate: opening.rate,
+        card: Card { rate: opening.rate, remainder: 0, start: 0 },
         amiga_limits: opening.amiga_limits,
         fast_slides: opening.fast_slides,
         channels: std::array::from_fn(channel),

@@ -54,6 +54,10 @@ impl Layout<'_> {
         }
     }
 
+    pub fn short(&mut self, field: &mut u16) {
+        *field = u16::from_le_bytes(self.next(field.to_le_bytes()));
+    }
+
     pub fn number(&mut self, field: &mut u32) {
         *field = u32::from_le_bytes(self.next(field.to_le_bytes()));
     }

@@ -1,6 +1,7 @@
 //! Runs the original row processor of oxideav-s3m as the judge of the port.
 
 pub mod calls;
+pub mod card;
 pub mod cover;
 pub mod generate;
 mod layout;

@@ -1,4 +1,4 @@
-//! 01's path machine, written from the document alone and held against the original.
+//! 01's path machine with 02's card, written from the documents alone and held against the original.
 
 use crate::generate::{self, Purpose};
 use crate::player::bridge::{open, walk};
@@ -77,13 +77,15 @@ fn follow(path: &mut State, asked: &Asked) -> Option<Jump> {
         }
     }
     path.speed = asked.speed.unwrap_or(path.speed);
-    path.bpm = asked.tempo.unwrap_or(path.bpm);
+    let tempo = asked.tempo.unwrap_or(path.bpm);
+    path.card.remainder = (u32::from(path.card.remainder) * u32::from(tempo) / u32::from(path.bpm)) as u16;
+    path.bpm = tempo;
     path.pattern_delay_remaining = asked.hold.unwrap_or(path.pattern_delay_remaining);
     jump
 }
 
 fn leave(path: &mut State, tune: &Tune, jump: Option<Jump>) {
-    path.start += u64::from(path.speed) * 5 * u64::from(path.rate) / (2 * u64::from(path.bpm));
+    go_on(path);
     path.replaying_for_pattern_delay = path.pattern_delay_remaining > 0 && jump.is_none();
     if path.replaying_for_pattern_delay {
         path.pattern_delay_remaining -= 1;
@@ -97,6 +99,14 @@ fn leave(path: &mut State, tune: &Tune, jump: Option<Jump>) {
         None => (path.order_index, path.row + 1),
     };
     path.ended = usize::from(path.order_index) >= tune.orders.len();
+}
+
+/// All of the card up to here in units of 1/(2 * tempo), of which none is lost.
+fn go_on(path: &mut State) {
+    let (card, unit) = (&mut path.card, 2 * u128::from(path.bpm));
+    let row = u128::from(path.speed) * 5 * u128::from(card.rate);
+    let units = u128::from(card.start) * unit + u128::from(card.remainder) + row;
+    (card.start, card.remainder) = ((units / unit) as u64, (units % unit) as u16);
 }
 
 /// The path's part of a state: its head without the global volume and the switches.
@@ -122,7 +132,7 @@ fn hold_against_the_original(tune: &Tune, from: State, rows: usize, seed: u64) {
 }
 
 #[test]
-fn the_originals_path_is_01s() {
+fn the_originals_path_is_01s_with_02s_card() {
     for seed in 0..400 {
         let random = &mut Random::new(seed);
         let tune = generate::tune(random, Purpose::Visits, seed);

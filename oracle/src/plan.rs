@@ -24,7 +24,7 @@ const PARTED_ROWS: u32 = 21;
 const PARTS: [u32; 3] = [PARTED_ROWS, 7, 1];
 const VISITED: u64 = 20;
 const VISITS: usize = 30;
-const REFUSED_SEED: u64 = 932;
+const REFUSED_SEED: u64 = 935;
 const REFUSED: usize = 4_000;
 /// Every so many rows one is put to Strikes and Line.
 const RECORDS: usize = 23;

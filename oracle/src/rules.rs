@@ -1,6 +1,7 @@
-//! Rules 9 to 13 written from 01 alone, and 255 from the border: the original refuses nothing.
+//! Rules 9 to 13 written from 01 and 02 alone, and 255 from the border: the original refuses nothing.
 
 use crate::calls::{Call, Function};
+use crate::card::unit;
 use crate::state::{STATE_BYTES, State};
 use crate::tune::{OPENING_BYTES, Opening, PATTERN_BYTES, RECORD_BYTES, SAMPLE_BYTES};
 
@@ -10,6 +11,9 @@ pub const COUNTS_BYTES: usize = 12;
 /// What Strikes and Line need as output.
 pub const STRIKES_BYTES: usize = 32;
 pub const LINE_BYTES: usize = 64;
+
+/// What 02 adds to rule 11.
+pub const REMAINDER: &str = "remainder of 2 * tempo or more";
 
 /// A way to break a rule, with the rule's number and whether it is broken so.
 pub type Fact = (u8, &'static str, bool);
@@ -80,15 +84,17 @@ fn state(bytes: &[u8]) -> Vec<Fact> {
         return Vec::new();
     }
     let state = State::decode(bytes);
+    let (card, remainder) = (&state.card, u32::from(state.card.remainder));
     let (mut frequencies, mut targets) = (state.channels.iter(), state.channels.iter());
     let facts = [
         (state.row > 63, "row above 63"),
         (state.loop_start_row > 63, "loop start above 63"),
         (state.speed == 0, "speed 0"),
         (state.bpm < 32, "tempo below 32"),
-        (state.start > MOST_START, "start above 2^62"),
-        (state.rate == 0, "rate 0"),
-        (state.rate > 100_000, "rate above 100,000"),
+        (card.start > MOST_START, "start above 2^62"),
+        (card.rate == 0, "rate 0"),
+        (card.rate > 100_000, "rate above 100,000"),
+        (remainder >= unit(state.bpm), REMAINDER),
         (frequencies.any(|ch| ch.frequency.is_nan()), "frequency not a number"),
         (targets.any(|ch| ch.target_frequency.is_nan()), "target not a number"),
     ];

@@ -42,7 +42,7 @@ fn print(tune: &Tune) -> String {
         count += 1;
     });
     let word = if last.ended { "end" } else { "more" };
-    out + &format!("{word},{count},{}\n", last.start)
+    out + &format!("{word},{count},{}\n", last.card.start)
 }
 
 /// A record's line.

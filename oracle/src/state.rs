@@ -1,6 +1,7 @@
 //! The state between two rows, and its 2,624 bytes as rust/include/lomqashe.h lays them out. Its channels are the
 //! original's own; a state that is read from bytes and written again has them in the border's one way.
 
+use crate::card::Card;
 use crate::layout::{self, Layout};
 use crate::opl2::{AdLibInstrument, EgStage, OplVoice};
 use crate::player::{Channel, PendingTrigger, Waveform};
@@ -38,8 +39,7 @@ pub struct State {
     pub global_volume: u8,
     pub amiga_limits: bool,
     pub fast_slides: bool,
-    pub rate: u32,
-    pub start: u64,
+    pub card: Card,
     pub channels: [Channel; CHANNELS],
     pub kept: Kept,
 }
@@ -63,16 +63,13 @@ impl State {
         layout.bytes([&mut self.speed, &mut self.bpm, &mut self.global_volume]);
         layout.flags([&mut self.amiga_limits, &mut self.fast_slides]);
         layout.next([0; 1]);
-        let (channels, kept) = (&mut self.channels, &mut self.kept);
-        lay_rest(layout, &mut self.rate, &mut self.start, channels, kept);
+        lay_rest(layout, &mut self.card, &mut self.channels, &mut self.kept);
     }
 }
 
 /// What follows the player's own fields: the card, the S infos and the channels.
-pub fn lay_rest(layout: &mut Layout, rate: &mut u32, start: &mut u64, channels: &mut [Channel], kept: &mut Kept) {
-    layout.number(rate);
-    layout.next([0; 4]);
-    layout.long(start);
+pub fn lay_rest(layout: &mut Layout, card: &mut Card, channels: &mut [Channel], kept: &mut Kept) {
+    card.lay(layout);
     layout.bytes(channels.iter_mut().map(|ch| &mut ch.effect_memory[S_SLOT]));
     for (ch, kept) in channels.iter_mut().zip(kept) {
         lay_channel(layout, ch, kept);

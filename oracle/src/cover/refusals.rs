@@ -2,8 +2,10 @@
 
 use super::Tally;
 use crate::calls::Function;
+use crate::card::unit;
 use crate::list::Case;
 use crate::rules;
+use crate::tune::le16;
 
 pub fn needs(tally: &mut Tally) {
     tally.family("open by rule {}", ["9", "9 before 10", "255", "255 before 9 before 10"]);
@@ -39,8 +41,20 @@ pub fn see(tally: &mut Tally, case: &Case, broken: &[(u8, &str)]) {
     if rules[0] == "13" {
         tally.note(format!("{name} into {} bytes", call.slots[1].len()));
     }
-    let spare = rules[0] == "11" && call.slots[3][15] != 0 && call.slots[3][20..24] != [0; 4];
+    let spare = rules[0] == "11" && call.slots[3][15] != 0 && call.slots[3][22..24] != [0; 2];
     tally.anywhere([(spare, "state refused with bytes that are not read")]);
+    see_remainder(tally, (names == [rules::REMAINDER]).then_some(&call.slots[3]));
+}
+
+/// A state with nothing wrong but its remainder.
+fn see_remainder(tally: &mut Tally, state: Option<&Vec<u8>>) {
+    let (unit, remainder) = state.map_or((1, 0), |state| (unit(state[11]), u32::from(le16(state, 20))));
+    let low = remainder & 255;
+    tally.anywhere([
+        (remainder == unit, "remainder 2 * tempo refused"),
+        (remainder > unit && low < unit, "remainder refused for its high byte"),
+        (remainder > 32_767, "remainder refused above 32,767"),
+    ]);
 }
 
 /// A record that Strikes or Line takes.

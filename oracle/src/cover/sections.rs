@@ -1,7 +1,8 @@
 //! Sections: where they start and end, their rows, and the same rows in parts.
 
-use super::Tally;
 use super::rows::{self, Seen};
+use super::{Tally, card};
+use crate::card::unit;
 use crate::list::Case;
 use crate::player::Channel;
 use crate::player::bridge::{cell, walk};
@@ -69,9 +70,12 @@ impl Sections {
         let chain = match self.chain.take() {
             Some(mut chain) if chain.n == n && chain.lent[..3] == new.lent[..3] && chain.end == new.lent[3] => {
                 let held = new.records.get(3) == Some(&1);
+                let remainder = State::decode(&chain.end).card.remainder > 0;
                 tally.anywhere([
                     (held && n == 7, "row held at a seam of 7"),
                     (held && n == 1, "row held at a seam of 1"),
+                    (remainder && n == 7, "remainder at a seam of 7"),
+                    (remainder && n == 1, "remainder at a seam of 1"),
                     (chain.end[9] != 0, "section asked on behind the end"),
                 ]);
                 chain.records.extend(&new.records);
@@ -83,7 +87,7 @@ impl Sections {
         let same = |whole: &&Whole| whole.n > n && whole.lent == chain.lent && whole.end == chain.end;
         let whole = self.wholes.iter().find(same);
         let found = whole.is_some_and(|whole| whole.records == chain.records);
-        let odd = found && State::decode(&chain.lent[3]).start > 0;
+        let odd = found && State::decode(&chain.lent[3]).card.start > 0;
         tally.anywhere([
             (found && n == 7, "section in parts of 7 rows"),
             (found && n == 1, "section in parts of 1 row"),
@@ -102,6 +106,7 @@ fn see_row(tally: &mut Tally, tune: &Tune, [before, entered]: [&State; 2], recor
     let held = before.replaying_for_pattern_delay;
     let skipped = entered.order_index != before.order_index;
     tally.both([(skipped, "0xFE skipped"), (held, "row held"), (!held, "row not held")]);
+    card::see(tally, tune, [before, entered], record);
     let (cells, strikes) = (tune.row(record[1].into(), record[2].into()), le32(record, 16));
     let channels = before.channels.iter().zip(&entered.channels).zip(cells).enumerate();
     let seen = |(i, ((before, after), bytes))| Seen {
@@ -120,17 +125,18 @@ fn see_start(tally: &mut Tally, case: &Case, tune: &Tune, state: &State) {
     let [.., bytes, output] = &case.call.slots;
     let spare = output.len() > n as usize * RECORD_BYTES;
     let edge = [state.row, state.loop_start_row, state.speed, state.bpm] == [63, 63, 1, 32];
+    let edge = edge && state.card.remainder == 63 && state.card.start == MOST_START;
     tally.both([(true, "section"), (rows >= 40, "section of 40 rows or more")]);
     tally.anywhere([
         (spare, "output with spare bytes"),
         (!spare, "output without a spare byte"),
         (n == 0, "section of no rows"),
         (state.ended && n > 0, "section from an ended state"),
-        (edge && state.start == MOST_START, "state at the edge of rule 11"),
+        (edge, "state at the edge of rule 11"),
         (tune.cells.is_empty(), "tune without a pattern"),
         (bytes[2] == 0 && bytes[3] != 0, "absent loop order with a byte"),
         (bytes[8] > 1 || bytes[13] > 1, "flag above 1"),
-        (bytes[15] != 0 && bytes[20] != 0, "spare bytes of a state"),
+        (bytes[15] != 0 && bytes[22] != 0, "spare bytes of a state"),
     ]);
     see_state(tally, tune, state);
     let parts = bytes[HEAD_BYTES..].chunks_exact(CHANNEL_BYTES);
@@ -143,6 +149,7 @@ fn see_state(tally: &mut Tally, tune: &Tune, state: &State) {
     let (held, hold) = (state.replaying_for_pattern_delay, state.pattern_delay_remaining > 0);
     let (order, owner) = (state.order_index, state.loop_pattern_order);
     let (limits, slides) = (state.amiga_limits, state.fast_slides);
+    let (card, last) = (&state.card, unit(state.bpm) - 1);
     tally.in_states([
         (state.loop_count == Some(0), "loop count 0"),
         (owner.is_none(), "loop order absent"),
@@ -153,9 +160,10 @@ fn see_state(tally: &mut Tally, tune: &Tune, state: &State) {
         (state.speed == 1, "speed 1"),
         (state.speed == 255, "speed 255"),
         (state.bpm == 32, "tempo 32"),
-        (state.start == MOST_START, "start 2^62"),
-        (state.rate == 1, "rate 1"),
-        (state.rate == 100_000, "rate 100000"),
+        (card.start == MOST_START, "start 2^62"),
+        (card.rate == 1, "rate 1"),
+        (card.rate == 100_000, "rate 100000"),
+        (u32::from(card.remainder) == last, "remainder 2 * tempo - 1"),
         (tune.orders.len() == 1, "tune of 1 order"),
         (tune.orders.len() == 255, "tune of 255 orders"),
         (tune.samples.is_empty(), "tune without samples"),
@@ -204,7 +212,7 @@ fn see_given(tally: &mut Tally, tune: &Tune, records: &[u8], last: &State) {
         (ended, "section that ends the tune"),
         (ended && rows, "section that ends the tune behind rows"),
         (!ended && rows, "section that does not end the tune"),
-        (last.start > MOST_START, "start left above 2^62"),
+        (last.card.start > MOST_START, "start left above 2^62"),
         (records.get(3) == Some(&1), "row held first"),
     ]);
     let named = tune.orders.get(usize::from(last.order_index));

@@ -3,6 +3,7 @@
 use super::tunes::opening;
 use super::{noise, odd_bytes};
 use crate::calls::{Call, Function};
+use crate::card::unit;
 use crate::list::ROOMS;
 use crate::random::Random;
 use crate::rules::MOST_START;
@@ -62,9 +63,10 @@ fn section(random: &mut Random, tune: &Tune) -> Call {
 
 /// A place of the state with a value that it may not have, or the last state that rule 11 lets through.
 fn break_state(random: &mut Random, state: &mut [u8]) {
+    let (unit, any) = (unit(state[11]) as u16, random.number() as u16);
     let mut put = |at: usize, bytes: &[u8]| state[at..at + bytes.len()].copy_from_slice(bytes);
     let channel = 64 + 80 * random.index(32);
-    match random.below(20) {
+    match random.below(22) {
         0 => put(1, &[random.between(64, 255)]),
         1 => put(6, &[random.between(64, 255)]),
         2 => put(10, &[0]),
@@ -74,10 +76,13 @@ fn break_state(random: &mut Random, state: &mut [u8]) {
         6 => put(16, &random.one(&[100_001, u32::MAX]).to_le_bytes()),
         7 | 8 => put(channel, &random.one(&NANS).to_le_bytes()),
         9 | 10 => put(channel + 4, &random.one(&NANS).to_le_bytes()),
-        11 => {
+        11 => put(20, &unit.to_le_bytes()),
+        12 => put(20, &any.max(unit).to_le_bytes()),
+        13 => {
             put(1, &[63]);
             put(6, &[63]);
             put(10, &[1, 32]);
+            put(20, &[63, 0]);
             put(16, &random.one(&[1, 100_000u32]).to_le_bytes());
             put(24, &MOST_START.to_le_bytes());
         }

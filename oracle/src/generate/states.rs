@@ -1,8 +1,9 @@
-//! Odd states: bytes that 01's rule 11 accepts, most of them any, with nothing waiting and not ended.
+//! Odd states: bytes that rule 11 accepts, most of them any, with nothing waiting and not ended.
 
 use super::cells::special;
 use super::tunes::rate;
 use super::{noise, unset};
+use crate::card::unit;
 use crate::random::Random;
 use crate::rules::MOST_START;
 use crate::state::{CHANNEL_BYTES, HEAD_BYTES, KEYED, NO_VOICE, RELEASED, STATE_BYTES, State};
@@ -17,10 +18,7 @@ pub fn odd_bytes(random: &mut Random, tune: &Tune) -> Vec<u8> {
     let mut out = noise(random, STATE_BYTES);
     let (head, channels) = out.split_at_mut(HEAD_BYTES);
     put_path(random, tune, head);
-    let start = random.below(MOST_START);
-    let start = random.weighted(&[(2, 0), (4, start), (1, MOST_START), (1, MOST_START - 1)]);
-    head[16..20].copy_from_slice(&rate(random).to_le_bytes());
-    head[24..32].copy_from_slice(&start.to_le_bytes());
+    put_card(random, head);
     for part in channels.chunks_exact_mut(CHANNEL_BYTES) {
         put_channel(random, tune.sample_count() as u8, part);
     }
@@ -47,6 +45,23 @@ fn put_path(random: &mut Random, tune: &Tune, head: &mut [u8]) {
         let special = special(random);
         *info = random.weighted(&[(4, *info), (3, special), (2, 0xD0 | *info), (1, 0)]);
     }
+}
+
+/// The rate, the remainder and the start; now and then as a row is longest.
+fn put_card(random: &mut Random, head: &mut [u8]) {
+    let longest = random.chance(2);
+    if longest {
+        head[10..12].copy_from_slice(&[255, 32]);
+    }
+    let rate = if longest { 100_000 } else { rate(random) };
+    let unit = unit(head[11]);
+    let below = random.below(unit.into()) as u32;
+    let remainder = random.weighted(&[(2, 0), (6, below), (1, 1), (2, unit - 1)]) as u16;
+    let start = random.below(MOST_START);
+    let start = random.weighted(&[(2, 0), (4, start), (1, MOST_START), (1, MOST_START - 1)]);
+    head[16..20].copy_from_slice(&rate.to_le_bytes());
+    head[20..22].copy_from_slice(&remainder.to_le_bytes());
+    head[24..32].copy_from_slice(&start.to_le_bytes());
 }
 
 /// Mostly a place that names a pattern, also the others and past the end.
