@@ -11,7 +11,7 @@
  * The archive is for x86-64: ELF objects, the System V calling convention. It links into programs,
  * position independent ones too, and into shared objects.
  *
- * Stack: lomqashe_section() takes 18,600 bytes at the most, lomqashe_open() 8,184, the others below
+ * Stack: lomqashe_section() takes 18,664 bytes at the most, lomqashe_open() 8,120, the others below
  * 400, arguments included. This was measured on a painted stack, over 3,000 tunes and states of
  * random bytes and two files, and is what the frames in the archive add up to; nothing there calls
  * itself. Where the dynamic linker looks memcpy up at the first call, that comes on top. A test asks
@@ -43,7 +43,8 @@
  *     10       opening speed, tempo or volume is as in 5, a pan is above 15, or the rate is 0 or
  *              above 100,000
  *     11       the state has a row or loop start above 63, speed 0, tempo below 32, a start above
- *              2^62, a rate as in 10, or a frequency or target that is not a number
+ *              2^62, a rate as in 10, a remainder of 2 * tempo or more, or a frequency or target
+ *              that is not a number
  *     12       n is above 65,535, or the output shorter than 536 * n bytes
  *     13       the record is not 536 bytes, or the output has under 32 (strikes) or 64 (line)
  *     255      counts, opening or state is not LOMQASHE_COUNTS_SIZE, _OPENING_SIZE or _STATE_SIZE
@@ -128,7 +129,7 @@ uint32_t lomqashe_read(const uint8_t *file, size_t file_size, uint32_t rate,
  *     0 order, 1 row, 2 loop order present (flag), 3 loop order, 4 loop count present (flag),
  *     5 loop count, 6 loop start row, 7 hold left, 8 held (flag), 9 ended (flag), 10 speed,
  *     11 tempo, 12 global volume, 13 Amiga limits (flag), 14 fast slides (flag), 15 spare,
- *     16-19 rate, 20-23 spare, 24-31 start on the card in micrometres,
+ *     16-19 rate, 20-21 remainder, 22-23 spare, 24-31 start on the card in micrometres,
  *     32-63 each channel's last S info that was not 0
  *
  * and then for each of 32 channels 80 bytes:
@@ -148,6 +149,9 @@ uint32_t lomqashe_read(const uint8_t *file, size_t file_size, uint32_t rate,
  *
  * What is absent is written as 0. The bits of any NaN are read as one NaN, which is written as
  * 0x7fc00000 or 0x7ff8000000000000.
+ *
+ * The remainder is how much further than the start the rows so far go, in units of 1/(2 * tempo)
+ * micrometre; a tune starts with 0. lomqashe_section() says how it goes on.
  *
  * Gives 0. Refuses with 255 (opening, state), 9 and 10.
  */
@@ -169,6 +173,12 @@ uint32_t lomqashe_open(const uint8_t *orders, size_t orders_size,
  *     channels 16 bytes: 0-3 frequency, 4-7 target frequency (binary32), 8 instrument, 9 volume,
  *     10 pan, 11 active, 12 last note, 13 delay tick (0 none), 14 voice global volume,
  *     15 AdLib voice
+ *
+ * A row's length in micrometres, held or not, is (speed * 5 * rate + remainder) / (2 * tempo), cut
+ * down to a whole number. The next row starts so much further on, and what the division leaves is
+ * the new remainder: so the starts of a tune do not drift, and rows that are alike may differ by 1.
+ * A row whose T commands, all of them together, take the tempo from t to u first makes the
+ * remainder remainder * u / t, cut down. No row is longer than 1,992,188.
  *
  * Gives the number of rows in bits 0 to 15, LOMQASHE_ROWS(), and in bit 16, LOMQASHE_ENDED(),
  * whether the tune has ended. Fewer than n rows come only where it has. Refuses with 255 (state),

@@ -107,7 +107,9 @@ impl Record {
         u64_at(&self.0, 8)
     }
 
-    /// How long the row is on the card, in micrometres.
+    /// How long the row is on the card, in micrometres: up to the next row's start. It is cut down to a whole number, and what
+    /// is cut off goes into the next row's ([`State::remainder`](crate::State::remainder)), so rows that are alike may differ
+    /// by one.
     pub fn length(&self) -> u32 {
         u32_at(&self.0, 20)
     }

@@ -42,7 +42,8 @@ impl Refusal {
             10 => "an opening value is out of range: speed, tempo, volume, a pan above 15, or the card rate",
             11 => {
                 "the state is none that a section can go on from: its row or loop start is above 63, its speed 0, its \
-                 tempo below 32, its start above 2^62, its card rate out of range, or a frequency or target is not a number"
+                 tempo below 32, its start above 2^62, its card rate out of range, its remainder 2 * tempo or more, \
+                 or a frequency or target is not a number"
             }
             12 => "more than 65,535 rows are asked for, or the output is too short for them",
             13 => "the record is not 536 bytes, or the output is too short for its strikes or line",

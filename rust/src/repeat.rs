@@ -4,7 +4,7 @@ use crate::{RECORD_BYTES, Record, Refusal, State, Tune};
 
 /// Where the rows of a tune begin to come again, in the same order for ever. It is certain, for the path was found to stand
 /// as it stood before, and it reads nothing else than where it stands and the tables. A row is the same where its order,
-/// pattern, row, hold, speed and tempo are; what the channels do in it may differ from turn to turn.
+/// pattern, row, hold, speed and tempo are; what the channels do in it may differ from turn to turn, and its length by one.
 #[derive(Clone, Copy, Debug, PartialEq, Eq, Hash)]
 pub struct Repeat {
     /// How many rows come before the first that only repeats.

@@ -1,7 +1,7 @@
 //! The state between two sections.
 
 use crate::Refusal;
-use crate::bytes::u64_at;
+use crate::bytes::{u16_at, u64_at};
 use std::fmt;
 
 /// Where a tune stands between two sections, with all that its next row depends on. It is a string of bytes that can be
@@ -39,8 +39,9 @@ impl State {
     }
 
     /// The path's part of the head: where it stands, with its loop, hold, speed, tempo and S infos, and its rate. The
-    /// global volume, the switches, the start and what may stand in the spare bytes are none of it: the order of the rows
-    /// does not depend on them.
+    /// global volume, the switches, the start, the remainder and what may stand in the spare bytes are none of it: the order
+    /// of the rows does not depend on them. With the remainder a turn would be found only where its remainder comes again,
+    /// up to 510 turns later.
     pub(crate) fn path(&self) -> [u8; 48] {
         let mut out = [0; 48];
         out[..12].copy_from_slice(&self.0[..12]);
@@ -72,6 +73,24 @@ impl State {
     pub fn start(&self) -> u64 {
         u64_at(&self.0[..], 24)
     }
+
+    /// How much further than [`State::start`] the rows so far go, which is less than a micrometre: a whole number of units of
+    /// 1/(2 × tempo) micrometre, by the state's tempo. The next row's length has it, so that starts do not drift. A row that
+    /// changes the tempo cuts it down to a whole number of the new units. No section goes on from a state that has 2 × tempo
+    /// units or more.
+    ///
+    /// ```
+    /// let tune = lomqashe::Tune::read(include_bytes!("../../oracle/examples/worked.s3m"), 60_001)?;
+    /// let mut state = tune.open()?;
+    /// assert_eq!(state.remainder(), 0);
+    /// // Two rows at speed 6 and one at speed 3, at tempo 125: 15 × 5 × 60,001 units of 1/250 micrometre.
+    /// tune.section(&mut state, 3, &mut [0; 3 * lomqashe::RECORD_BYTES])?;
+    /// assert_eq!((state.start(), state.remainder()), (18_000, 75));
+    /// # Ok::<(), lomqashe::Refusal>(())
+    /// ```
+    pub fn remainder(&self) -> u16 {
+        u16_at(&self.0[..], 20)
+    }
 }
 
 impl AsRef<[u8]> for State {
@@ -97,6 +116,7 @@ impl fmt::Debug for State {
             .field("row", &self.row())
             .field("ended", &self.ended())
             .field("start", &self.start())
+            .field("remainder", &self.remainder())
             .finish_non_exhaustive()
     }
 }

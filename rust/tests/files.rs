@@ -189,6 +189,21 @@ fn sheets_of_separate_runs_join_to_the_sheet() {
 }
 
 #[test]
+fn a_state_in_a_file_keeps_its_remainder() {
+    let folder = Folder::new("remainder");
+    let mut tune = held();
+    tune[50] = 137;
+    let tune = folder.write("held.s3m", &tune);
+    // A row is 1,800,000 / 274 = 6,569.34 micrometres long.
+    let sheet = "order,pattern,row,held,speed,tempo,start,length,strikes\n0,0,0,0,6,137,0,6569,1\n\
+                 0,0,1,0,6,137,6569,6569,0\n0,0,1,1,6,137,13138,6570,0\n0,0,1,1,6,137,19708,6569,0\n\
+                 0,0,2,0,6,137,26277,6569,1\nend,5,32846\n";
+    for runs in [&["9"][..], &["2", "9"], &["1", "1", "1", "1", "1"]] {
+        assert_eq!(joined(&folder, &tune, runs), sheet, "{runs:?}");
+    }
+}
+
+#[test]
 fn a_file_that_is_no_state_is_told() {
     let folder = Folder::new("no-state");
     let state = folder.path("state");

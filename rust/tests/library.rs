@@ -1,6 +1,6 @@
 //! The library on 01's worked example: its sheet however it is cut, what a refusal leaves, and states kept as bytes.
 
-use lomqashe::{MOST_ROWS, RECORD_BYTES, State, Tune, measure};
+use lomqashe::{MOST_ROWS, RECORD_BYTES, Record, State, Tune, measure};
 
 const WORKED: &[u8] = include_bytes!("../../oracle/examples/worked.s3m");
 const SHEET: &str = include_str!("../../oracle/examples/worked.sheet");
@@ -75,15 +75,17 @@ fn bytes_behind_the_last_record_stay() {
 fn states_and_opening_values_out_of_range_are_refused() {
     let tune = worked();
     let opened = tune.open().unwrap();
-    // Row 64, loop start 64, speed 0, tempo 31, rate 0 and 100,001, start above 2^62, a frequency and a target that are
-    // no number.
-    let edits: [(usize, &[u8]); 9] = [
+    // Row 64, loop start 64, speed 0, tempo 31, rate 0 and 100,001, remainder 250 and 256 at tempo 125, start above 2^62, a
+    // frequency and a target that are no number.
+    let edits: [(usize, &[u8]); 11] = [
         (1, &[64]),
         (6, &[64]),
         (10, &[0]),
         (11, &[31]),
         (16, &[0; 4]),
         (16, &[0xA1, 0x86, 1, 0]),
+        (20, &[250, 0]),
+        (20, &[0, 1]),
         (24, &[1, 0, 0, 0, 0, 0, 0, 0x40]),
         (64, &[1, 0, 0x80, 0x7F]),
         (64 + 31 * 80 + 4, &[0, 0, 0xC0, 0xFF]),
@@ -102,6 +104,23 @@ fn states_and_opening_values_out_of_range_are_refused() {
     let mut empty = tune.clone();
     empty.orders.clear();
     assert_eq!(empty.open().unwrap_err().number(), 9);
+}
+
+#[test]
+fn the_remainder_goes_into_the_next_rows_length() {
+    let mut tune = worked();
+    tune.opening.rate = 60_001;
+    let mut bytes = *tune.open().unwrap().as_bytes();
+    assert_eq!(bytes[20..24], [0; 4]);
+    // The most at tempo 125, and spare bytes that are not read.
+    bytes[20..24].copy_from_slice(&[249, 0, 7, 7]);
+    let mut state = State::from_bytes(&bytes);
+    let mut output = [0; RECORD_BYTES];
+    tune.section(&mut state, 1, &mut output).unwrap();
+    // 6 * 5 * 60,001 + 249 = 7,201 * 250 + 29.
+    assert_eq!(Record::from_bytes(&output).length(), 7_201);
+    assert_eq!((state.start(), state.remainder()), (7_201, 29));
+    assert_eq!(state.as_bytes()[20..24], [29, 0, 0, 0]);
 }
 
 #[test]

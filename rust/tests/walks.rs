@@ -148,6 +148,15 @@ fn a_first_turn_at_another_speed_is_none() {
     assert_eq!(repeat.length, 2 * 7_200 + 4 * 3_600);
 }
 
+#[test]
+fn a_turn_is_found_whatever_its_remainder() {
+    let mut tune = endless();
+    tune.opening.tempo = 137;
+    // A row is 6,569.34 micrometres long, the first turn 26,277.37.
+    let repeat = tune.first_repeat(4).unwrap().unwrap();
+    assert_eq!((repeat.rows, repeat.back_to, repeat.length), (4, 0, 26_277));
+}
+
 /// The first repeat by all rows at once: the least number of rows, of which some last part comes again and again.
 fn by_looking(tune: &Tune, rows: usize) -> (usize, usize) {
     let seen: Vec<Vec<u8>> = tune
