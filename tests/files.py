@@ -1,8 +1,8 @@
 #!/usr/bin/env python3
 """Small S3M files made of a few words: tests/files.py FOLDER writes those of README's table of players, to try in a player.
 
-A tune has orders and one pattern, no instruments, speed 6 and tempo 125. Its rows are given as {1: "SE1 SB1"}: in row 1
-channel 0 has SE1 and channel 1 has SB1, and so on; a channel that has nothing there is `...`.
+A tune has orders and one pattern, no instruments, speed 6 and, unless said, tempo 125. Its rows are given as
+{1: "SE1 SB1"}: in row 1 channel 0 has SE1 and channel 1 has SB1, and so on; a channel that has nothing there is `...`.
 """
 import pathlib
 import sys
@@ -29,9 +29,10 @@ def packed(row):
     return b"".join(bytes([0x80 + k, ord(cell[0]) - 64, int(cell[1:], 16)]) for k, cell in cells) + b"\0"
 
 
-def tune(orders, rows, off=()):
+def tune(orders, rows, off=(), tempo=125):
     """The file of a tune. The channels named by `off` are turned off in its header."""
-    header = edited(HEADER, (32, word(len(orders))), (34, word(0)), (36, word(1)), *((SETTINGS + k, [OFF]) for k in off))
+    sizes = [(32, word(len(orders))), (34, word(0)), (36, word(1))]
+    header = edited(HEADER, *sizes, (50, [tempo]), *((SETTINGS + k, [OFF]) for k in off))
     place = (len(header) + len(orders) + 2 + 15) // 16
     lists = header + bytes(orders) + word(place)
     pattern = b"".join(packed(rows.get(row, "")) for row in range(64))

@@ -1,11 +1,12 @@
 #!/usr/bin/env python3
 """Runs the built program rowsheet on small files and compares what it prints, byte for byte.
 
-The expected lines are written here from 01 and never taken from the program: tests/sheets.py [PROGRAM]
+The expected lines are written here from 01 and 02 and never taken from the program: tests/sheets.py [PROGRAM]
 """
 import pathlib
 import subprocess
 import sys
+from fractions import Fraction
 
 import files
 from files import tune, word
@@ -34,6 +35,27 @@ def sheet(rows, last):
     return TITLE + "".join(lines) + last + "\n"
 
 
+def even(orders, tempo):
+    """The sheet of an empty pattern, over and over at one tempo: each start is the exact one, cut down by itself."""
+    rows = 64 * orders
+    starts = [n * ROW // (2 * tempo) for n in range(rows + 1)]
+    lines = [f"{n // 64},0,{n % 64},0,6,{tempo},{starts[n]},{starts[n + 1] - starts[n]},0\n" for n in range(rows)]
+    return TITLE + "".join(lines) + f"end,{rows},{starts[rows]}\n"
+
+
+def uneven(rows):
+    """The sheet of rows that are each given as order, row, held and tempo. A place on the card is a fraction, which nothing
+    cuts but a row that changes the tempo: down to a whole number of 1/(2 * tempo), once."""
+    lines, place, before = [], Fraction(0), None
+    for order, row, held, tempo in rows:
+        if tempo != before:
+            place = Fraction(int(place * 2 * tempo), 2 * tempo)
+        behind = place + Fraction(ROW, 2 * tempo)
+        lines.append(f"{order},0,{row},{held},6,{tempo},{int(place)},{int(behind) - int(place)},0\n")
+        place, before = behind, tempo
+    return TITLE + "".join(lines) + f"end,{len(rows)},{int(place)}\n"
+
+
 def many_patterns(n):
     """One order and n patterns, none of which has a pointer."""
     lists = bytes([0]) + word(0) * n
@@ -42,6 +64,20 @@ def many_patterns(n):
 
 def length(rows):
     return f"{rows},{rows * 7200}"
+
+
+# A row at speed 6 and rate 60,000, in units of 1/(2 * tempo) micrometre.
+ROW = 6 * 5 * 60000
+# Tempos 137, 151, 32 (held once), 255, and 255 again behind 100; the last T of a row counts, and T1F does nothing.
+CHANGING = {0: "T89", 3: "SE2", 7: "T64 T20 T97", 20: "... T20 ... SE1", 33: "TFF T1F", 50: "T64 TFF"}
+TEMPOS, HOLDS = {0: 137, 7: 151, 20: 32, 33: 255}, {3: 2, 20: 1}
+
+
+def changed(orders):
+    """The rows of that pattern, as `uneven` takes them."""
+    tempos = [TEMPOS[max(first for first in TEMPOS if first <= row)] for row in range(64)]
+    visits = [(row, held) for row in range(64) for held in [0] + [1] * HOLDS.get(row, 0)]
+    return [(order, row, held, tempos[row]) for order in range(orders) for row, held in visits]
 
 
 FORTY = [(order, row, 0, 0) for order in range(250) for row in range(40)]
@@ -118,6 +154,9 @@ CASES = [
         tune([0], {48: "SE5"}),
         sheet(once(0, 49) + [(0, 48, 1, 0)] * 5 + once(49), f"end,{length(69)}"),
     ),
+    # 9,984 rows of 6,569.34 micrometres: 3.4 mm more than 9,984 times 6,569.
+    ("thousands of rows at tempo 137", tune([0] * 156, {}, tempo=137), even(156, 137)),
+    ("thousands of rows, tempo by tempo", tune([0] * 149, CHANGING), uneven(changed(149))),
     *((name, file, PLAYERS[name]) for name, file in files.PLAYERS.items()),
 ]
 
@@ -130,7 +169,7 @@ def main():
         if printed != expected:
             wrong += 1
             print(f"sheets: {name}: printed {printed[-200:]!r}, not {expected[-200:]!r}", file=sys.stderr)
-    print(f"sheets: {len(CASES) - wrong} of {len(CASES)} files have the sheet that 01 gives")
+    print(f"sheets: {len(CASES) - wrong} of {len(CASES)} files have the sheet that 01 and 02 give")
     sys.exit(1 if wrong else 0)
 
 
