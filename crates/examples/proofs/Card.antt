@@ -10,8 +10,9 @@ use Rattle.row_path.specs.Enter.{endedAt, arrived, clockAt, paced, delayed, set
 use Rattle.row_path.specs.Card.{rescaled, lengthOf, restOf}
 use Rattle.row_path.specs.Leave.{ticked, heldOn, goneOn, left}
 use Rattle.row_path.specs.Walk.{turnBy, turn, more, onward, pathWalk}
-use Rattle.examples.specs.Card.{with, tempos, carded, shown, cardExample}
+use Rattle.examples.specs.Marked.{withCommand}
+use Rattle.examples.specs.Card.{tempoChanges, fiveRows, shown, cardExample}
 
 pub card : T cardExample
-unfolding cardExample carded shown tempos with inTurn firstPath skipFrom skipped patternAt scanTempo scanDelay scanInfo special specialAt heard scanned firstScan scoped looped endedAt arrived clockAt paced delayed settled loopedBy acted visited enteredAt entered rescaled lengthOf restOf ticked heldOn goneOn left turnBy turn more onward pathWalk rowCells cellOf
+unfolding cardExample fiveRows shown tempoChanges withCommand inTurn firstPath skipFrom skipped patternAt scanTempo scanDelay scanInfo special specialAt heard scanned firstScan scoped looped endedAt arrived clockAt paced delayed settled loopedBy acted visited enteredAt entered rescaled lengthOf restOf ticked heldOn goneOn left turnBy turn more onward pathWalk rowCells cellOf
 card = tt

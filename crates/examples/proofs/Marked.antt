@@ -22,8 +22,8 @@ use Rattle.channel.specs.Memory.{resumes, hasMemory, slotOf, recalled, stored, 
 use Rattle.channel.specs.Play.{loaded, slidBack, noted, volumed, volumedAfter, playCell}
 use Rattle.channel.specs.Commands.{commanded}
 use Rattle.channel.specs.Row.{delivered, relatched, finished, channelEntered}
-use Rattle.examples.specs.Marked.{walked, pattern, rowsOf, endsAt, after, examples}
+use Rattle.examples.specs.Marked.{walked, withCommand, pattern, rowsOf, endsAt, after, examples}
 
 pub marked : T (every (λ i b. b) 0 examples)
-unfolding examples walked pattern rowsOf endsAt after firstPath eq skipFrom skipped patternAt scanRow scanLoop scanInfo special specialAt heard scanned firstScan scoped again requested looped endedAt arrived clockAt paced delayed settled loopedBy acted visited enteredAt entered rescaled lengthOf restOf ticked heldOn goneOn left turnBy turn more onward pathWalk rowCells cellOf noteFrequency frequencyOf periodAt periodOf noteNumber narrowed div ofInt offsetOf openedChannel withRow withVolume withLatch withPan volumeSlid resumes hasMemory slotOf recalled stored begun sampleOf loaded slidBack noted volumed volumedAfter playCell commanded delivered relatched finished channelEntered
+unfolding examples walked withCommand pattern rowsOf endsAt after firstPath eq skipFrom skipped patternAt scanRow scanLoop scanInfo special specialAt heard scanned firstScan scoped again requested looped endedAt arrived clockAt paced delayed settled loopedBy acted visited enteredAt entered rescaled lengthOf restOf ticked heldOn goneOn left turnBy turn more onward pathWalk rowCells cellOf noteFrequency frequencyOf periodAt periodOf noteNumber narrowed div ofInt offsetOf openedChannel withRow withVolume withLatch withPan volumeSlid resumes hasMemory slotOf recalled stored begun sampleOf loaded slidBack noted volumed volumedAfter playCell commanded delivered relatched finished channelEntered
 marked = tt

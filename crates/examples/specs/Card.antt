@@ -1,25 +1,21 @@
 -- An example of document 02, 2026-01, worked out by hand. Assumes nothing.
-use Prim.Native.Nat.{ℕ, _+_, _*_}
+use Prim.Native.Nat.{ℕ}
 use mathlib.Core.Bool.{Bool, _&&_}
 use mathlib.Core.List.{List, [], _∷_}
-use lib.ListN.{replicate, set}
+use lib.ListN.{replicate}
 use Rattle.laws.specs.Entries.{inTurn}
 use Rattle.row_path.specs.First.{firstPath}
 use Rattle.row_path.specs.Card.{lengthOf}
 use Rattle.row_path.specs.Walk.{Walk, pathWalk}
-use Rattle.examples.specs.Marked.{same}
-
--- cells with a command and an info in a channel of a row
-unfoldable pub with : ℕ → ℕ → ℕ → ℕ → List ℕ → List ℕ
-with row channel command info cells = set (set cells (row * 160 + channel * 5 + 3) command) (row * 160 + channel * 5 + 4) info
+use Rattle.examples.specs.Marked.{same, withCommand}
 
 -- row 2 has T64, T20 and T97 (tempo 100, 32 and 151) and SE1, row 3 has T89 (137)
-unfoldable pub tempos : List ℕ
-tempos = with 2 0 20 0x64 (with 2 1 20 0x20 (with 2 5 20 0x97 (with 2 9 19 0xE1 (with 3 0 20 0x89 (replicate 10240 0)))))
+unfoldable pub tempoChanges : List ℕ
+tempoChanges = withCommand 2 0 20 0x64 (withCommand 2 1 20 0x20 (withCommand 2 5 20 0x97 (withCommand 2 9 19 0xE1 (withCommand 3 0 20 0x89 (replicate 10240 0)))))
 
 -- its first five rows at speed 6, tempo 137 and rate 60,000: a row has 1,800,000 units of 1/(2 × tempo)
-unfoldable pub carded : Walk
-carded = pathWalk (0 ∷ []) tempos 5 (firstPath 6 137 60000)
+unfoldable pub fiveRows : Walk
+fiveRows = pathWalk (0 ∷ []) tempoChanges 5 (firstPath 6 137 60000)
 
 -- start, length and remainder of each row
 unfoldable pub shown : Walk → List ℕ
@@ -27,7 +23,7 @@ shown w = inTurn (λ e. e .path .clock .start ∷ lengthOf (e .path .clock) ∷ 
 
 unfoldable pub cardExample : Bool
 cardExample =
-    same (shown carded)
+    same (shown fiveRows)
     -- 1,800,000 = 6,569 × 274 + 94
     (0 ∷ 6569 ∷ 0
     -- 1,800,094 = 6,569 × 274 + 188
@@ -38,4 +34,4 @@ cardExample =
     ∷ 19098 ∷ 5961 ∷ 287
     -- 65 × 137 / 151 = 58.97; 1,800,058 = 6,569 × 274 + 152
     ∷ 25059 ∷ 6569 ∷ 58 ∷ [])
-    && same (carded .path .clock .start ∷ carded .path .clock .remainder ∷ []) (31628 ∷ 152 ∷ [])
+    && same (fiveRows .path .clock .start ∷ fiveRows .path .clock .remainder ∷ []) (31628 ∷ 152 ∷ [])

@@ -21,9 +21,13 @@ use Rattle.section.specs.Ordinary.{centred, ordinary}
 unfoldable pub walked : List ℕ → List ℕ → ℕ → Walk
 walked orders cells n = pathWalk orders cells n (firstPath (ordinary .speed) (ordinary .tempo) (ordinary .rate))
 
+-- cells with a command and an info in a channel of a row
+unfoldable pub withCommand : ℕ → ℕ → ℕ → ℕ → List ℕ → List ℕ
+withCommand row channel command info cells = set (set cells (row * 160 + channel * 5 + 3) command) (row * 160 + channel * 5 + 4) info
+
 -- one pattern with a command and an info in channel 0 of a row
 unfoldable pub pattern : ℕ → ℕ → ℕ → List ℕ
-pattern row command info = set (set (replicate 10240 0) (row * 160 + 3) command) (row * 160 + 4) info
+pattern row command info = withCommand row 0 command info (replicate 10240 0)
 
 -- the rows that a walk goes through
 unfoldable pub rowsOf : Walk → List ℕ

@@ -10,7 +10,7 @@ use Rattle.row_path.specs.Card.{rescaled, unitsOf, lengthOf, restOf}
 use Rattle.row_path.specs.Enter.{endedAt, arrived, clockAt, paced, settled, acted, visited, enteredAt, entered}
 use Rattle.row_path.specs.Leave.{ticked, left}
 use Rattle.row_path.specs.Walk.{Turn, turn, turnBy, Walk, onward, more, pathWalk}
-use Rattle.row_path.specs.Drift.{cardAt, unitsOfAll, AllAt}
+use Rattle.row_path.specs.Drift.{cardAt, unitsOfAll, AllAt, RunOn, Retimed}
 use Rattle.row_path.specs.declared.option.ByteOption.{ByteOption}
 use Rattle.row_path.specs.declared.option.ByteOption.the-variants.{None, Some}
 use Rattle.row_path.specs.declared.machine.Clock.{Clock}
@@ -64,13 +64,17 @@ module _ (orders cells : List ℕ) where
   unfolding clockAt
   entered-remainder p h = ap (λ (c : Clock). c .remainder) (entered-at p h)
 
-  -- a change of tempo from t to u loses less than one unit of 1/(2 × u): all in units of 1/(2 × t × u), of which that has t
-  pub tempo-loses : (p : Path) → p .clock .remainder < 2 * p .clock .tempo → (entered orders cells p .path .clock .remainder * p .clock .tempo ≤ p .clock .remainder * entered orders cells p .path .clock .tempo) × (p .clock .remainder * entered orders cells p .path .clock .tempo < entered orders cells p .path .clock .remainder * p .clock .tempo + p .clock .tempo)
+  -- a change of tempo from t to u loses less than one unit of 1/(2 × u)
+  pub tempo-loses : (p : Path) → p .clock .remainder < 2 * p .clock .tempo → Retimed (p .clock) (entered orders cells p .path .clock)
   unfolding rescaled
   tempo-loses p h =
       let t = p .clock .tempo in
       let n = p .clock .remainder * entered orders cells p .path .clock .tempo in
-      rw (entered-remainder p h) (div-mul-le-self n t, lt-div-mul-add {a = n} {b = t} (omega arith))
+      record {
+        start = entered-clock orders cells p .1;
+        most = rw (entered-remainder p h) (div-mul-le-self n t);
+        least = rw (entered-remainder p h) (lt-div-mul-add {a = n} {b = t} (omega arith));
+      }
 
   -- an enter that ends the tune leaves the clock
   pub ending-clock : (p : Path) → p .ended ≡ false → entered orders cells p .path .ended ≡ true → entered orders cells p .path .clock ≡ p .clock
@@ -121,19 +125,20 @@ module _ (orders cells : List ℕ) where
       step-exact c e (left orders e) _ (entered-card orders cells p h (a .0)) (l .0 ∙ a .0) (no-drift orders e)
       (walk-card n (left orders e) (l .1) (subst (λ (t : ℕ). AllAt t (pathWalk orders cells n (left orders e) .rows)) (sym (l .0 ∙ a .0)) (a .1)))))
 
-exact : (a b d m n : ℕ) → m < d → a * d + m ≡ b * d + n → (a ≡ b + n / d) × (m ≡ n % d)
-exact a b d m n h e =
+divided : (a b d m n : ℕ) → m < d → a * d + m ≡ b * d + n → (a ≡ b + n / d) × (m ≡ n % d)
+divided a b d m n h e =
     let z : 0 < d = omega arith in (
       sym (add-zero a) ∙ ap (λ (x : ℕ). a + x) (sym (div-eq-of-lt h)) ∙ sym (mul-add-div-right z a m) ∙ ap (λ (x : ℕ). x / d) e ∙ mul-add-div-right z b n,
       sym (mod-eq-of-lt h) ∙ sym (mul-add-mod-self-right a d m) ∙ ap (λ (x : ℕ). x % d) e ∙ mul-add-mod-self-right b d n,
     )
 
--- over a walk of any number of rows in which no row changes the tempo, what start has grown by is the sum of speed × 5 × rate,
--- and the first remainder, divided by 2 × tempo; and the remainder is what that division leaves
-pub walk-no-drift : (orders cells : List ℕ) (n : ℕ) (p : Path) → p .clock .remainder < 2 * p .clock .tempo → AllAt (p .clock .tempo) (pathWalk orders cells n p .rows) → (pathWalk orders cells n p .path .clock .start ≡ p .clock .start + (p .clock .remainder + unitsOfAll (pathWalk orders cells n p .rows)) / (2 * p .clock .tempo)) × (pathWalk orders cells n p .path .clock .remainder ≡ (p .clock .remainder + unitsOfAll (pathWalk orders cells n p .rows)) % (2 * p .clock .tempo))
+-- over a walk of any number of rows in which no row changes the tempo nothing is lost
+pub walk-no-drift : (orders cells : List ℕ) (n : ℕ) (p : Path) → p .clock .remainder < 2 * p .clock .tempo → AllAt (p .clock .tempo) (pathWalk orders cells n p .rows)
+    → RunOn (p .clock) (unitsOfAll (pathWalk orders cells n p .rows)) (pathWalk orders cells n p .path .clock)
 walk-no-drift orders cells n p h a =
     let x = walk-card orders cells n p h a in
     let w = pathWalk orders cells n p in
     let d = 2 * p .clock .tempo in
     let e : w .path .clock .start * d + w .path .clock .remainder ≡ p .clock .start * d + (p .clock .remainder + unitsOfAll (w .rows)) = rw (x .tempo) at (x .card) ∙ add-assoc (p .clock .start * d) (p .clock .remainder) (unitsOfAll (w .rows)) in
-    exact (w .path .clock .start) (p .clock .start) d (w .path .clock .remainder) _ (x .small) e
+    let q = divided (w .path .clock .start) (p .clock .start) d (w .path .clock .remainder) _ (x .small) e in
+    record { start = q .0; remainder = q .1 }

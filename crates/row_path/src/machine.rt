@@ -31,8 +31,8 @@ pub struct Hold {
     pub held: bool,
 }
 
-// Rate is in micrometres a second; start is where the row starts on the card, in micrometres, and remainder how far behind
-// it, in units of 1/(2 × tempo) of one.
+// Rate is in micrometres a second; start is where the row starts on the card, in whole micrometres, and remainder how much
+// further on that is, in units of 1/(2 × tempo) of one.
 pub struct Clock {
     pub speed: u8,
     pub tempo: u8,

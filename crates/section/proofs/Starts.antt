@@ -38,4 +38,4 @@ start-exact t s n room k rule bytes shaped h all =
     ∙ start-read (rowAt t q) (v .globalVolume) (p .strikes) (p .channels) (fit .0)
     ∙ entered-clock (t .orders) (t .cells) (q .path) .1
     ∙ ap (λ (w : Walked). w .state .path .clock .start) (walk-machines t k s)
-    ∙ walk-no-drift (t .orders) (t .cells) k (s .path) (rule-sound s (rules-kept t s n room rule .1) shaped .remainder) all .0
+    ∙ walk-no-drift (t .orders) (t .cells) k (s .path) (rule-sound s (rules-kept t s n room rule .1) shaped .remainder) all .start
