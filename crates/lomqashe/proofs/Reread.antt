@@ -1,5 +1,5 @@
 -- Every 2,624 bytes are a state of the Rattle types, which is written and read as the same. Assumes nothing.
-use Prim.Native.Nat.{ℕ, _+_, _*_, _^_, _<_, _≤_}
+use Prim.Native.Nat.{ℕ, _+_, _*_, _<_, _≤_}
 use mathlib.Core.Path.{_≡_, subst, subst⁻¹}
 use mathlib.Core.List.{List}
 use native.Mathlib.Omega.{arith}
@@ -8,22 +8,12 @@ use lib.Ieee.Bits.{ofBits-fits}
 use lib.ListN.{length, take, drop, length-drop}
 use lib.Seq.{length-take-le}
 use Rattle.laws.proofs.Pieces.{length-tabulate, tabulate-each}
-use Rattle.tune.specs.Numbers.{littleAt}
-use Rattle.tune.proofs.Little.{two, four, halves}
-use Rattle.row_path.specs.Sound.{Bytes}
+use Rattle.tune.specs.Numbers.{littleAt, Bytes}
+use Rattle.tune.proofs.Little.{little-small}
 use Rattle.lomqashe.specs.Channels.{channelOf}
 use Rattle.lomqashe.specs.States.{pathOf, stateBytes, stateOf}
 use Rattle.lomqashe.specs.Typed.{TypedChannel, Typed}
 use Rattle.lomqashe.proofs.StateKept.{state-kept}
-
-two-small : (s : List ℕ) (at : ℕ) → Bytes s → littleAt 2 s at < 2 ^ 16
-two-small s at h = omega (arith, two s at, h at, h (at + 1))
-
-four-small : (s : List ℕ) (at : ℕ) → Bytes s → littleAt 4 s at < 2 ^ 32
-four-small s at h = omega (arith, four s at, h at, h (at + 1), h (at + 2), h (at + 3))
-
-eight-small : (s : List ℕ) (at : ℕ) → Bytes s → littleAt 8 s at < 2 ^ 64
-eight-small s at h = omega (arith, halves s at, four-small s at h, four-small s (at + 4) h)
 
 part-length : (n at : ℕ) (s : List ℕ) → at + n ≤ length s → length (take n (drop at s)) ≡ n
 part-length n at s h = length-take-le n (drop at s) (subst⁻¹ (λ (m : ℕ). n ≤ m) (length-drop at s) (omega arith))
@@ -43,9 +33,9 @@ pub read-typed : (s : List ℕ) → Bytes s → length s ≡ 2624 → Typed (sta
 unfolding stateOf pathOf
 read-typed s h n =
     record {
-      rate = four-small s 16 h;
-      start = eight-small s 24 h;
-      remainder = two-small s 20 h;
+      rate = little-small 4 s 16 h;
+      start = little-small 8 s 24 h;
+      remainder = little-small 2 s 20 h;
       infos = part-length 32 32 s (omega (arith, n));
       count = length-tabulate 32 (λ i. channelOf (take 80 (drop (64 + i * 80) s)));
       each = λ d k b. tabulate-each TypedChannel 32 (λ i. channelOf (take 80 (drop (64 + i * 80) s))) (λ k b. channel-typed (take 80 (drop (64 + k * 80) s)) (part-length 80 (64 + k * 80) s (omega (arith, n, b)))) d k (subst (λ (m : ℕ). k < m) (length-tabulate 32 (λ i. channelOf (take 80 (drop (64 + i * 80) s)))) b);

@@ -13,7 +13,6 @@ use Rattle.tune.specs.Sizes.{rule9}
 use Rattle.tune.specs.Cells.{rowPlace, cellAt, rowCells, cellOf}
 use Rattle.tune.specs.Opening.{rule10}
 use Rattle.row_path.specs.First.{firstPath}
-use Rattle.row_path.specs.Sound.{Bytes}
 use Rattle.row_path.specs.Orders.{skipFrom, skipped, patternAt}
 use Rattle.row_path.specs.Scan.{heard, scanned, firstScan}
 use Rattle.row_path.specs.Loops.{scoped, looped}
@@ -28,7 +27,7 @@ use Rattle.channel.specs.Channels as channels
 use Rattle.tune.specs.Samples.{sampleOf}
 use Rattle.laws.specs.Masks.{maskFrom}
 use Rattle.section.specs.Machines.{rowPlayed, recordOf, recordsOf}
-use Rattle.tune.specs.Numbers.{bytesOf}
+use Rattle.tune.specs.Numbers.{bytesOf, Bytes}
 use Rattle.section.specs.Records.{rowHead, recordBytes}
 use Rattle.section.specs.Tables.{Tune}
 use Rattle.section.specs.Open.{freshState, openRule}

@@ -6,7 +6,7 @@ use lib.Dec.{T, eqb}
 use lib.ListN.{length}
 use Rattle.tune.specs.Sizes.{patternCount}
 use Rattle.tune.specs.Cells.{cellAt}
-use Rattle.row_path.specs.Sound.{Bytes}
+use Rattle.tune.specs.Numbers.{Bytes}
 use Rattle.row_path.specs.Steering.{steers}
 use Rattle.section.specs.Tables.{Tune}
 

@@ -13,12 +13,12 @@ use Rattle.tune.specs.Sizes.{patternCount}
 use Rattle.tune.specs.Cells.{rowCells, cellOf}
 use Rattle.tune.specs.declared.cells.Cell.{Cell}
 use Rattle.tune.proofs.Sized.{Sized}
+use Rattle.tune.specs.Numbers.{Bytes}
 use Rattle.row_path.specs.Option.{isAt}
 use Rattle.row_path.specs.Orders.{skipped, patternAt}
 use Rattle.row_path.specs.Scan.{scanned, firstScan}
 use Rattle.row_path.specs.Loops.{scoped, jumpOf, turns, again, requested, looped}
 use Rattle.row_path.specs.Enter.{endedAt, arrived, clockAt, paced, delayed, settled, loopedBy, acted, visited, enteredAt, entered}
-use Rattle.row_path.specs.Sound.{Bytes}
 use Rattle.row_path.specs.declared.option.ByteOption.{ByteOption}
 use Rattle.row_path.specs.declared.option.ByteOption.the-variants.{None, Some}
 use Rattle.row_path.specs.declared.scan.Scan.{Scan}

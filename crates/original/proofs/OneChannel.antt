@@ -10,7 +10,7 @@ use Rattle.laws.specs.Choice.{pick}
 use Rattle.laws.proofs.Picks.{choice}
 use Rattle.tune.specs.Samples.{sampleOf}
 use Rattle.tune.specs.declared.cells.Cell.{Cell}
-use Rattle.row_path.specs.Sound.{Bytes}
+use Rattle.tune.specs.Numbers.{Bytes}
 use Rattle.channel.specs.declared.state.Channel.{Channel}
 use Rattle.channel.specs.declared.state.Played.{Played}
 use Rattle.channel.specs.declared.state.Switches.{Switches}

@@ -10,8 +10,8 @@ use Rattle.laws.specs.Entries.{mapFrom}
 use Rattle.tune.specs.Sizes.{rule9}
 use Rattle.tune.specs.declared.opening.ChannelOpening.{ChannelOpening}
 use Rattle.tune.specs.declared.opening.Opening.{Opening}
+use Rattle.tune.specs.Numbers.{Bytes}
 use Rattle.row_path.specs.First.{firstPath}
-use Rattle.row_path.specs.Sound.{Bytes}
 use Rattle.channel.specs.Opening.{openedChannel}
 use Rattle.channel.specs.declared.state.Channel.{Channel}
 use Rattle.section.specs.Tables.{Tables, tablesRule}

@@ -14,8 +14,8 @@ use Rattle.laws.proofs.Maps.{map-length, map-at}
 use Rattle.tune.specs.Cells.{cellOf}
 use Rattle.tune.specs.Samples.{sampleOf}
 use Rattle.tune.specs.declared.cells.Cell.{Cell}
+use Rattle.tune.specs.Numbers.{Bytes}
 use Rattle.row_path.specs.Scan.{heard, scanned, firstScan}
-use Rattle.row_path.specs.Sound.{Bytes}
 use Rattle.row_path.specs.declared.option.ByteOption.{ByteOption}
 use Rattle.row_path.specs.declared.option.ByteOption.the-variants.{None, Some}
 use Rattle.row_path.specs.declared.scan.Scan.{Scan}

@@ -11,7 +11,8 @@ use lib.Seq.{getD-set-same, getD-set-other}
 use Rattle.laws.proofs.Picks.{choice, here-or}
 use Rattle.tune.specs.Cells.{rowCells, cellOf}
 use Rattle.tune.proofs.Sized.{Sized}
-use Rattle.row_path.specs.Sound.{Sound, Bytes}
+use Rattle.tune.specs.Numbers.{Bytes}
+use Rattle.row_path.specs.Sound.{Sound}
 use Rattle.row_path.specs.declared.machine.Entered.{Entered}
 use Rattle.row_path.proofs.Kept.{row-bytes, entered-kept, left-kept}
 use Rattle.row_path.proofs.Unmoved.{entered-size, left-size}

@@ -1,5 +1,5 @@
 -- Orders, rows and samples: the Rust's lists against the lent tables. Assumes nothing.
-use Prim.Native.Nat.{ℕ, zero, suc, _+_, _-_, _*_, _^_, _≤_, _<_, min}
+use Prim.Native.Nat.{ℕ, zero, suc, _+_, _-_, _*_, _≤_, _<_, min}
 use mathlib.Core.Path.{_≡_, refl, sym, ap, _∙_, subst}
 use mathlib.Core.Bool.{Bool, true, false, _&&_}
 use mathlib.Core.List.{List, []}
@@ -13,13 +13,13 @@ use Rattle.laws.proofs.Picks.{either}
 use Rattle.tune.specs.Sizes.{patternCount, sampleCount}
 use Rattle.tune.specs.Cells.{cellAt, rowCells, cellOf}
 use Rattle.tune.specs.Samples.{sampleAt, sampleOf}
-use Rattle.tune.specs.Numbers.{littleAt}
+use Rattle.tune.specs.Numbers.{Bytes}
 use Rattle.tune.specs.declared.cells.Cell.{Cell}
 use Rattle.tune.specs.declared.samples.Sample.{Sample}
 use Rattle.tune.specs.declared.samples.SampleOption.the-variants.{None as NoSample, Some as ASample}
+use Rattle.tune.proofs.Little.{little-small}
 use Rattle.tune.proofs.RowCell.{row-cell}
 use Rattle.row_path.specs.Orders.{skipped, patternAt}
-use Rattle.row_path.specs.Sound.{Bytes}
 use Rattle.row_path.specs.declared.option.ByteOption.{ByteOption}
 use Rattle.row_path.specs.declared.option.ByteOption.the-variants.{None, Some}
 use Rattle.row_path.proofs.Steps.{skip-more, skip-stop, skip-end}
@@ -71,10 +71,6 @@ pattern-same m os n at s e = by (ltb at (length os)) (eqb (getD os at 0) 255)
     by true false = there _ _ (getD os at 0) refl refl
     by false d = refl
 
--- a number of four bytes
-little-word : (s : List ℕ) (at : ℕ) → Bytes s → littleAt 4 s at < 2 ^ 32
-little-word s at b = let p = b (at + 0) in let q = b (at + 1) in let r = b (at + 2) in let t = b (at + 3) in omega arith
-
 module _ (t : Tables) (w : Switches) where
   pub pattern-count : length (songOf t w .patterns) ≡ patternCount (t .cells)
   unfolding songOf
@@ -122,7 +118,7 @@ module _ (t : Tables) (w : Switches) where
 
   fits-at : Bytes (t .samples) → (at : ℕ) → Fits (sampleAt (t .samples) at)
   unfolding sampleAt
-  fits-at b at = record { start = little-word (t .samples) (at + 8) b; end = little-word (t .samples) (at + 12) b }
+  fits-at b at = record { start = little-small 4 (t .samples) (at + 8) b; end = little-small 4 (t .samples) (at + 12) b }
 
   -- every sample's loop is of 32-bit numbers
   pub sample-fits : Bytes (t .samples) → (k : ℕ) → Fits (getD (songOf t w .samples) k anySample)

@@ -9,10 +9,11 @@ use lib.Dec.{eqb, ltb}
 use lib.ListN.{length, getD, take, drop, length-take, List·getD-eq-default}
 use lib.Seq.{getD-take, getD-drop}
 use Rattle.tune.specs.Cells.{rowPlace, rowCells}
+use Rattle.tune.specs.Numbers.{Bytes}
 use Rattle.row_path.specs.Orders.{nextOrder}
 use Rattle.row_path.specs.Enter.{entered}
 use Rattle.row_path.specs.Leave.{left}
-use Rattle.row_path.specs.Sound.{Sound, SoundEntered, Bytes}
+use Rattle.row_path.specs.Sound.{Sound, SoundEntered}
 use Rattle.row_path.specs.declared.machine.Path.{Path}
 use Rattle.row_path.specs.declared.machine.Entered.{Entered}
 use Rattle.row_path.proofs.Ends.{skipped-most}

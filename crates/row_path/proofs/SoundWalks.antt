@@ -5,10 +5,11 @@ use mathlib.Core.Bool.{false}
 use mathlib.Core.List.{List}
 use native.Mathlib.Omega.{arith}
 use lib.ListN.{length, getD}
+use Rattle.tune.specs.Numbers.{Bytes}
 use Rattle.row_path.specs.Enter.{entered}
 use Rattle.row_path.specs.Card.{lengthOf}
 use Rattle.row_path.specs.Leave.{left}
-use Rattle.row_path.specs.Sound.{Sound, SoundEntered, Bytes}
+use Rattle.row_path.specs.Sound.{Sound, SoundEntered}
 use Rattle.row_path.specs.Walk.{Turn, onward, more, pathWalk, rowsLeft}
 use Rattle.row_path.specs.declared.machine.Path.{Path}
 use Rattle.row_path.specs.declared.machine.Entered.{Entered}

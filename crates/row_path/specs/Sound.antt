@@ -1,7 +1,5 @@
 -- What rules 9 and 11 settle of a path, and every enter and leave keeps (01, 'Why a call says no'). Assumes nothing.
 use Prim.Native.Nat.{ℕ, _*_, _≤_, _<_}
-use mathlib.Core.List.{List}
-use lib.ListN.{getD}
 use Rattle.row_path.specs.declared.option.ByteOption.{ByteOption}
 use Rattle.row_path.specs.declared.option.ByteOption.the-variants.{None, Some}
 use Rattle.row_path.specs.declared.loops.Jump.{Jump}
@@ -47,7 +45,3 @@ pub record Bounded (p : Path) : Type 0 where
 pub record BoundedEntered (e : Entered) : Type 0 where
   pub path : Bounded (e .path)
   pub jump : JumpTo (λ _. Unit) (e .jump)
-
--- a table of bytes
-abbrev pub Bytes : List ℕ → Type 0
-Bytes s = (k : ℕ) → getD s k 0 < 256

@@ -15,7 +15,8 @@ use Rattle.tune.specs.declared.opening.ChannelOpening.{ChannelOpening}
 use Rattle.tune.specs.declared.opening.Opening.{Opening}
 use Rattle.tune.proofs.Opened.{in-range}
 use Rattle.tune.proofs.Sized.{sized}
-use Rattle.row_path.specs.Sound.{Sound, Bytes}
+use Rattle.tune.specs.Numbers.{Bytes}
+use Rattle.row_path.specs.Sound.{Sound}
 use Rattle.row_path.specs.Walk.{pathWalk}
 use Rattle.row_path.specs.declared.machine.Path.{Path}
 use Rattle.row_path.specs.declared.machine.Entered.{Entered}

@@ -14,7 +14,7 @@ use denote.Struct.Field.{Field, array-field, u8-field}
 use Rattle.tune.specs.declared.opening.Opening.{Opening}
 use Rattle.tune.proofs.opening.Opening as opening
 use Rattle.tune.proofs.opening.ChannelOpening as channelOpening
-use Rattle.row_path.specs.Sound.{Bytes}
+use Rattle.tune.specs.Numbers.{Bytes}
 use Rattle.channel.specs.declared.state.Channel.{Channel}
 use Rattle.channel.proofs.state.Channel as channel
 use Rattle.section.specs.Typed.{ShapedChannel, Shaped, ShapedOpening}

@@ -3,7 +3,7 @@ use Prim.Native.Nat.{ℕ, _≤_, _<_}
 use mathlib.Core.Path.{_≡_}
 use lib.ListN.{length, getD}
 use Rattle.tune.specs.declared.opening.Opening.{Opening}
-use Rattle.row_path.specs.Sound.{Bytes}
+use Rattle.tune.specs.Numbers.{Bytes}
 use Rattle.channel.specs.declared.state.Channel.{Channel}
 use Rattle.section.specs.declared.state.State.{State}
 use Rattle.section.specs.Tables.{Tables}

@@ -1,12 +1,12 @@
 -- Numbers of several bytes, read off and given back. Assumes nothing.
 use mathlib.Core.Path.{_≡_, sym, ap, subst, _∙_}
 use mathlib.Core.List.{List, _++_}
-use Prim.Native.Nat.{ℕ, zero, suc, _+_, _*_, _/_, _%_, _^_, _<_}
-use native.Mathlib.Nat.{add-zero, add-assoc, mul-assoc, pow-suc}
+use Prim.Native.Nat.{ℕ, zero, suc, _+_, _*_, _/_, _%_, _^_, _≤_, _<_}
+use native.Mathlib.Nat.{add-zero, add-assoc, mul-assoc, mul-le-mul-right, pow-suc, pow-succ'}
 use native.Mathlib.Omega.{arith}
 use lib.ListN.{getD, drop}
 use lib.Seq.{getD-drop, drop-drop}
-use Rattle.tune.specs.Numbers.{littleAt, bytesOf}
+use Rattle.tune.specs.Numbers.{littleAt, bytesOf, Bytes}
 
 pub two : (s : List ℕ) (at : ℕ) → littleAt 2 s at ≡ getD s at 0 + getD s (at + 1) 0 * 256
 two s at = rw add-zero (omega arith)
@@ -16,6 +16,13 @@ four s at = rw add-zero (omega arith)
 
 pub halves : (s : List ℕ) (at : ℕ) → littleAt 4 s at + littleAt 4 s (at + 4) * 4294967296 ≡ littleAt 8 s at
 halves s at = rw (add-zero, add-assoc at 4 0, add-assoc at 4 1, add-assoc at 4 2, add-assoc at 4 3) (omega arith)
+
+-- a number of n bytes
+pub little-small : (n : ℕ) (s : List ℕ) (at : ℕ) → Bytes s → littleAt n s at < 256 ^ n
+little-small zero s at h = omega arith
+little-small (suc n) s at h =
+    let b : getD s (at + n) 0 ≤ 255 = omega (arith, h (at + n)) in
+    omega (arith, little-small n s at h, mul-le-mul-right (256 ^ n) b, pow-succ' 256 n)
 
 -- the low byte, and the number that the others make
 low-first : (n : ℕ) (s : List ℕ) (at : ℕ) → littleAt (suc n) s at ≡ getD s at 0 + littleAt n s (at + 1) * 256

@@ -1,8 +1,12 @@
 -- Numbers of several bytes, and flags. Assumes nothing.
-use Prim.Native.Nat.{ℕ, zero, suc, _+_, _*_, _/_, _%_, _^_}
+use Prim.Native.Nat.{ℕ, zero, suc, _+_, _*_, _/_, _%_, _^_, _<_}
 use mathlib.Core.Bool.{Bool, true, false}
 use mathlib.Core.List.{List, [], _∷_}
 use lib.ListN.{getD}
+
+-- each entry of a list is a byte
+abbrev pub Bytes : List ℕ → Type 0
+Bytes s = (k : ℕ) → getD s k 0 < 256
 
 -- the number of n bytes at a place, the low byte first (01, first sentence)
 abbrev pub littleAt : ℕ → List ℕ → ℕ → ℕ
