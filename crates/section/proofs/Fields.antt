@@ -1,8 +1,11 @@
 -- A row's numbers, read back from its record; and the row of each record that Section writes. Assumes nothing.
 use Prim.Native.Nat.{ℕ, zero, suc, _+_, _*_, _^_, _≤_, _<_}
 use mathlib.Core.Path.{_≡_, refl, sym, ap, _∙_, subst}
-use mathlib.Core.List.{List, [], _++_, append-assoc}
+use mathlib.Core.List.{List, [], _∷_, _++_, append-assoc}
 use native.Mathlib.Omega.{arith}
+use lib.Dec.{T}
+use lib.Ieee.{binary32, fits, ofBits, toBits}
+use lib.Ieee.Bits.{ofBits-toBits, toBits-lt}
 use lib.ListN.{length, getD, drop}
 use lib.Seq.{drop-at, drop-drop}
 use Rattle.tune.specs.Numbers.{littleAt, bytesOf}
@@ -22,13 +25,26 @@ use Rattle.channel.specs.declared.state.Channel.{Channel}
 use Rattle.section.specs.declared.state.State.{State}
 use Rattle.section.specs.Tables.{Tables}
 use Rattle.section.specs.Typed.{Shaped, ByteTables}
-use Rattle.section.specs.Records.{startAt, strikesAt, lengthAt, rowHead, channelsBytes, recordBytes}
+use Rattle.section.specs.Records.{headSize, channelSize, startAt, strikesAt, lengthAt, rowHead, channelBytes, channelsBytes, recordBytes}
 use Rattle.section.specs.Machines.{recordOf, voicesAfter}
 use Rattle.section.specs.Section.{sectionRule}
 use Rattle.section.specs.Walk.{voicesOf, stateWith, stepBy, step, Walked, onto, goOn, walk}
 use Rattle.section.proofs.Ready.{rules-kept, ready, rule-sound}
-use Rattle.section.proofs.Sizes.{bytes-length}
+use Rattle.section.proofs.Sizes.{bytes-length, channel-length}
 use Rattle.section.proofs.Walks.{machines, walk-machines}
+
+channel-piece : (cs : List Channel) (k : ℕ) (d : Channel) → k < length cs → drop (16 * k) (channelsBytes cs) ≡ channelBytes (getD cs k d) ++ drop (16 * suc k) (channelsBytes cs)
+unfolding channelsBytes
+channel-piece [] k d h = absurd (omega arith)
+channel-piece (c ∷ cs) zero d h = ap (λ (l : List ℕ). channelBytes c ++ l) (sym (drop-at (channelBytes c) (channelsBytes cs) 16 (channel-length c)))
+channel-piece (c ∷ cs) (suc k) d h = shifted k ∙ channel-piece cs k d (omega arith) ∙ ap (λ (l : List ℕ). channelBytes (getD cs k d) ++ l) (sym (shifted (suc k)))
+  where
+    shifted : (n : ℕ) → drop (16 * suc n) (channelBytes c ++ channelsBytes cs) ≡ drop (16 * n) (channelsBytes cs)
+    shifted n =
+        let e : 16 * suc n ≡ 16 + 16 * n = omega arith in
+        ap (λ (m : ℕ). drop m (channelBytes c ++ channelsBytes cs)) e
+        ∙ sym (drop-drop (16 * n) 16 (channelBytes c ++ channelsBytes cs))
+        ∙ ap (drop (16 * n)) (drop-at (channelBytes c) (channelsBytes cs) 16 (channel-length c))
 
 module _ (e : Entered) (globalVolume mask : ℕ) (channels : List Channel) where
   abbrev row : List ℕ
@@ -43,8 +59,15 @@ module _ (e : Entered) (globalVolume mask : ℕ) (channels : List Channel) where
   at-mask : drop strikesAt row ≡ bytesOf 4 mask ++ (bytesOf 4 (lengthOf (e .path .clock)) ++ channelsBytes channels)
   at-mask = sym (drop-drop 8 startAt row) ∙ ap (drop 8) at-start ∙ drop-at (bytesOf 8 (e .path .clock .start)) _ 8 (bytes-length 8 (e .path .clock .start))
 
-  at-length : drop lengthAt row ≡ bytesOf 4 (lengthOf (e .path .clock)) ++ channelsBytes channels
+  pub at-length : drop lengthAt row ≡ bytesOf 4 (lengthOf (e .path .clock)) ++ channelsBytes channels
   at-length = sym (drop-drop 4 strikesAt row) ∙ ap (drop 4) at-mask ∙ drop-at (bytesOf 4 mask) _ 4 (bytes-length 4 mask)
+
+  at-channels : drop headSize row ≡ channelsBytes channels
+  at-channels = sym (drop-drop 4 lengthAt row) ∙ ap (drop 4) at-length ∙ drop-at (bytesOf 4 (lengthOf (e .path .clock))) (channelsBytes channels) 4 (bytes-length 4 (lengthOf (e .path .clock)))
+
+  -- channel k's bytes
+  pub at-channel : (k : ℕ) (d : Channel) → k < length channels → drop (headSize + channelSize * k) row ≡ channelBytes (getD channels k d) ++ drop (channelSize * suc k) (channelsBytes channels)
+  at-channel k d h = sym (drop-drop (channelSize * k) headSize row) ∙ ap (drop (channelSize * k)) at-channels ∙ channel-piece channels k d h
 
   -- the start, the strike mask and the length that a record says are the row's
   pub start-read : e .path .clock .start < 2 ^ 64 → littleAt 8 row startAt ≡ e .path .clock .start
@@ -55,6 +78,14 @@ module _ (e : Entered) (globalVolume mask : ℕ) (channels : List Channel) where
 
   pub length-read : lengthOf (e .path .clock) < 2 ^ 32 → littleAt 4 row lengthAt ≡ lengthOf (e .path .clock)
   length-read h = sym (little-back 4 row _ lengthAt (lengthOf (e .path .clock)) h at-length)
+
+  -- and so is a channel's frequency, which its type has in 32 bits
+  pub frequency-read : (k : ℕ) (d : Channel) → k < length channels → T (fits binary32 (getD channels k d .frequency)) → ofBits binary32 (littleAt 4 row (headSize + channelSize * k)) ≡ getD channels k d .frequency
+  unfolding channelBytes
+  frequency-read k d h f =
+      let x = getD channels k d .frequency in
+      ap (ofBits binary32) (sym (little-back 4 row _ (headSize + channelSize * k) (toBits binary32 x) (toBits-lt binary32 x f) (at-channel k d h ∙ append-assoc (bytesOf 4 (toBits binary32 x)) _ _)))
+      ∙ ofBits-toBits binary32 x f
 
 module _ (t : Tables) where
   -- the row that is entered from a state
