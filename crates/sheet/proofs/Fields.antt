@@ -3,6 +3,8 @@ use Prim.Native.Nat.{ℕ, _^_, _≤_, _<_}
 use mathlib.Core.Path.{_≡_, ap, _∙_, subst⁻¹}
 use mathlib.Core.List.{List, []}
 use native.Mathlib.Omega.{arith}
+use lib.Dec.{T}
+use lib.Ieee.{binary32, fits}
 use lib.ListN.{length, getD}
 use Rattle.row_path.specs.Card.{lengthOf}
 use Rattle.row_path.specs.declared.machine.Entered.{Entered}
@@ -15,10 +17,11 @@ use Rattle.section.specs.Records.{rowHead, recordBytes}
 use Rattle.section.specs.Machines.{rowPlayed, recordOf}
 use Rattle.section.specs.Section.{sectionRule}
 use Rattle.section.specs.Walk.{voicesOf, walk}
-use Rattle.section.proofs.Fields.{start-read, mask-read, length-read, rowAt, record-at, row-fits}
-use Rattle.section.proofs.Sizes.{strikes-below, walk-channels}
+use Rattle.section.proofs.Fields.{start-read, mask-read, length-read, frequency-read, rowAt, record-at, row-fits}
+use Rattle.section.proofs.Sizes.{played-count, strikes-below, walk-channels}
 use Rattle.section.proofs.Walks.{walk-count}
 use Rattle.sheet.specs.Records.{maskOf}
+use Rattle.sheet.specs.Order.{frequencyOf}
 use Rattle.sheet.specs.Lines.{lineFields, rowFields}
 
 -- the record of a row whose numbers fit
@@ -46,3 +49,15 @@ section-read t s n room k rule bytes shaped h =
       ap lineFields r ∙ fields-read e (v .globalVolume) (p .strikes) (p .channels) (fit .0) m (fit .1),
       ap maskOf r ∙ mask-read e (v .globalVolume) (p .strikes) (p .channels) m,
     )
+
+-- and the frequency by which it lists channel i is that of the row's channel, which its type has in 32 bits
+pub section-frequency : (t : Tables) (s : State) (n k i : ℕ) (d : Channel) → k < length (walk t n s .records)
+    → let c = getD (rowPlayed t (s .switches) (rowAt t (walk t k s .state)) (voicesOf (walk t k s .state)) .channels) i d in
+    length (s .channels) ≡ 32 → i < 32 → T (fits binary32 (c .frequency)) → frequencyOf (getD (walk t n s .records) k []) i ≡ c .frequency
+unfolding recordOf
+section-frequency t s n k i d h full l f =
+    let v = voicesOf (walk t k s .state) in
+    let e = rowAt t (walk t k s .state) in
+    let p = rowPlayed t (s .switches) e v in
+    ap (λ (r : List ℕ). frequencyOf r i) (record-at t n s k h)
+    ∙ frequency-read e (v .globalVolume) (p .strikes) (p .channels) i d (subst⁻¹ (λ (m : ℕ). i < m) (played-count t (s .switches) e v ∙ walk-channels t k s ∙ full) l) f

@@ -1,4 +1,8 @@
+pub mod Patterns
+pub mod Sorted
 pub mod Struck
+pub mod Chosen
+pub mod Passes
 pub mod Given
 pub mod Digits
 pub mod Spelling

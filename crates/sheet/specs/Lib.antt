@@ -1,5 +1,7 @@
 pub mod Records
+pub mod Order
+pub mod Strikes
 pub mod Listing
-pub mod Struck
+pub mod Keys
 pub mod Lines
 pub mod Digits

@@ -3,14 +3,14 @@ use Prim.Native.Nat.{ℕ, zero, suc, _+_, _/_, _%_}
 use mathlib.Core.List.{List, [], _∷_, _++_}
 use lib.Count.{ones}
 use lib.Dec.{ltb}
-use lib.ListN.{length, getD, drop}
+use lib.ListN.{length, getD}
 use Rattle.laws.specs.Choice.{pick}
 use Rattle.laws.specs.Refusals.{Said, said}
 use Rattle.tune.specs.Numbers.{littleAt, flag}
 use Rattle.row_path.specs.Card.{lengthOf}
 use Rattle.row_path.specs.declared.machine.Entered.{Entered}
 use Rattle.section.specs.Records.{startAt, lengthAt}
-use Rattle.sheet.specs.Records.{recordRule, strikeCount}
+use Rattle.sheet.specs.Records.{recordRule, strikeCount, written}
 
 -- a number of at most n digits in digits
 unfoldable pub decimal : ℕ → ℕ → List ℕ
@@ -47,9 +47,5 @@ abbrev pub lineSays : List ℕ → List ℕ → Said ℕ
 lineSays r out = said (recordRule r (length out) 64) (length (lineOf r))
 
 -- the output behind the call: the line, and the bytes behind it as they were
-unfoldable pub outputBy : ℕ → List ℕ → List ℕ → List ℕ
-outputBy zero r out = lineOf r ++ drop (length (lineOf r)) out
-outputBy (suc x) r out = out
-
 abbrev pub lineOutput : List ℕ → List ℕ → List ℕ
-lineOutput r out = outputBy (recordRule r (length out) 64) r out
+lineOutput r out = written (recordRule r (length out) 64) (lineOf r) out

@@ -2,7 +2,8 @@
 use mathlib.Core.Path.{sym, _∙_}
 use native.Mathlib.Nat.{le-trans}
 use borrow.Author.Needs.{needs}
-use Rattle.sheet.proofs.Given.{record-fits, line-refused, line-written}
+use Rattle.sheet.specs.Lines.{lineOf}
+use Rattle.sheet.proofs.Given.{record-fits, call-refused, call-done}
 use Rattle.sheet.proofs.line.line.Statement.{statement}
 use Rattle.sheet.proofs.line.line.Tie as tie
 
@@ -10,7 +11,7 @@ record-rule-requires : tie.Need-record-rule-requires
 record-rule-requires c κs = search needs
 
 returns : tie.Need-returns
-returns c = rw (← c .before .record-rule .ensures) (line-refused _ _ _ (c .if1 .taken))
+returns c = rw (← c .before .record-rule .ensures) (call-refused _ _ _ _ (c .if1 .taken))
 
 fields-of-requires : tie.Need-fields-of-requires
 fields-of-requires c κs =
@@ -29,10 +30,12 @@ same-length : tie.Need-same-length
 same-length c = search needs
 
 returns-2 : tie.Need-returns-2
+unfolding lineOf
 returns-2 c =
     let d = c .before .before .before .before .before in
     let p = c .before .before .put-fields in
-    rw (← d .before .record-rule .ensures) (line-written _ _ _ (d .if1 .left) (c .before .before .before .fields-of .ensures .0) (p .ensures .0) (p .ensures .1))
+    let f = c .before .before .before .fields-of .ensures .0 in
+    rw (← d .before .record-rule .ensures) (call-done _ _ _ (d .if1 .left) (p .ensures .0 ∙ rw f) (p .ensures .1 ∙ rw (p .ensures .0, f)))
 
 pub line-spec : {M : Type 1} → statement M
 line-spec =
