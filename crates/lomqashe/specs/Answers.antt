@@ -1,6 +1,5 @@
 -- What the six calls answer, and what they leave in the lent bytes. Assumes nothing.
 use Prim.Native.Nat.{ℕ, _+_, _*_, _^_}
-use mathlib.Core.Path.{_≡_}
 use mathlib.Core.List.{List, _++_}
 use mathlib.Core.Option.{Option, none, some}
 use lib.Dec.{eqb}
@@ -19,9 +18,6 @@ use Rattle.tune.specs.Numbers.{bytesOf, flag}
 use Rattle.section.specs.Open.{freshState, openRule}
 use Rattle.section.specs.Section.{sectionOf, sectioned, outputAfter}
 use Rattle.section.specs.declared.state.Sectioned.{Sectioned}
-use Rattle.sheet.specs.Records.{answerSays}
-use Rattle.sheet.specs.Listing.{StrikesGive}
-use Rattle.sheet.specs.declared.answer.Answer.{Answer}
 use Rattle.s3m.specs.declared.ReadAnswer.the-variants as Read
 use Rattle.lomqashe.specs.Openings.{openingSize, openingBytes, openingAt}
 use Rattle.lomqashe.specs.States.{stateSize, stateBytes, stateOf}
@@ -104,9 +100,3 @@ given (some n) = n
 -- what Strikes or Line says in one number
 abbrev pub inOne : Said ℕ → ℕ
 inOne s = answerOf (s .number) (given (s .values))
-
--- Strikes: the number is that of an answer which Strikes may give with these bytes before and after
-pub record StrikesNumber (row before after : List ℕ) (n : ℕ) : Type 0 where
-  pub answer : Answer
-  pub gives : StrikesGive row before after answer
-  pub number : n ≡ inOne (answerSays answer)

@@ -15,11 +15,11 @@ ghost use Rattle.s3m.specs.Answers.{readSays, ordersAfter, samplesAfter, cellsA
 ghost use Rattle.section.specs.Tables.{lent};
 ghost use Rattle.tune.specs.Numbers.{flag};
 ghost use Rattle.section.specs.Open.{freshState};
-ghost use Rattle.sheet.specs.Listing.{strikesSay};
+ghost use Rattle.sheet.specs.Strikes.{strikesSay, strikesOutput};
 ghost use Rattle.sheet.specs.Lines.{lineSays, lineOutput};
 ghost use Rattle.lomqashe.specs.Openings.{openingAt};
 ghost use Rattle.lomqashe.specs.States.{stateOf};
-ghost use Rattle.lomqashe.specs.Answers.{answerOf, countBytes, measureRefusal, countsAfter, readRefusal, openingBy, openingAfter, openRefusal, stateOpened, sectionBy, sectionAnswer, stateAfter, recordsAfter, inOne, StrikesNumber};
+ghost use Rattle.lomqashe.specs.Answers.{answerOf, countBytes, measureRefusal, countsAfter, readRefusal, openingBy, openingAfter, openRefusal, stateOpened, sectionBy, sectionAnswer, stateAfter, recordsAfter, inOne};
 use opening::opening_of;
 use opening::put_opening;
 use s3m::ReadAnswer;
@@ -205,11 +205,11 @@ pub extern "C" fn lomqashe_section(
     rows_and_ended(given.rows, given.ended)
 }
 
-// Strikes: gives the number of struck channels.
+// Strikes: gives the number of struck channels, which are listed from the lowest frequency up.
 #[no_mangle]
 pub extern "C" fn lomqashe_strikes(row: &[u8], out: &mut [u8]) -> u32
     ensures answer { λ r. ⌜ r ≡ inOne (strikesSay (now (row .entry)) (now (out .entry))) ⌝ }
-    ensures written { λ r. ⌜ StrikesNumber (now (row .entry)) (now (out .entry)) (now (out .exit)) r ⌝ }
+    ensures written { λ _. ⌜ now (out .exit) ≡ strikesOutput (now (row .entry)) (now (out .entry)) ⌝ }
 {
     match strikes(row, out) {
         Answer::Done(channels) => done(channels),
