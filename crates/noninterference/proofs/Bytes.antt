@@ -1,18 +1,19 @@
 -- Where a record's parts stand in its bytes. Assumes nothing.
-use Prim.Native.Nat.{ℕ, zero, suc, _+_, _*_, _^_, _<_}
+use Prim.Native.Nat.{ℕ, _+_, _*_, _^_, _<_}
 use mathlib.Core.Path.{_≡_, sym, ap, _∙_}
-use mathlib.Core.List.{List, [], _∷_, _++_, append-assoc}
+use mathlib.Core.List.{List, _∷_, _++_, append-assoc}
 use native.Mathlib.Omega.{arith}
 use lib.ListN.{length, getD, take, drop}
-use lib.Seq.{take-at, drop-at, drop-drop}
+use lib.Seq.{take-at, getD-take, getD-drop}
 use Rattle.laws.specs.Masks.{bitOf}
-use Rattle.tune.specs.Numbers.{bytesOf, flag}
+use Rattle.tune.specs.Numbers.{littleAt, bytesOf, flag}
 use Rattle.row_path.specs.Card.{lengthOf}
 use Rattle.row_path.specs.declared.machine.Entered.{Entered}
 use Rattle.channel.specs.declared.state.Channel.{Channel}
 use Rattle.section.specs.Records.{rowHead, channelBytes, channelsBytes, recordBytes}
-use Rattle.section.proofs.Fields.{mask-read}
+use Rattle.section.proofs.Fields.{mask-read, at-length, at-channel}
 use Rattle.section.proofs.Sizes.{bytes-length, channel-length}
+use Rattle.sheet.specs.Order.{frequencyBits}
 use Rattle.noninterference.specs.Kept.{headIn, strikeIn, channelIn}
 
 -- a row head up to its strike mask
@@ -24,16 +25,6 @@ front e g =
 front-length : (e : Entered) (g : ℕ) → length (front e g) ≡ 16
 unfolding front
 front-length e g = omega (arith, bytes-length 8 (e .path .clock .start))
-
-piece : (cs : List Channel) (k : ℕ) (d : Channel) → k < length cs → take 16 (drop (16 * k) (channelsBytes cs)) ≡ channelBytes (getD cs k d)
-unfolding channelsBytes
-piece [] k d h = absurd (omega arith)
-piece (c ∷ cs) zero d h = take-at (channelBytes c) (channelsBytes cs) 16 (channel-length c)
-piece (c ∷ cs) (suc k) d h =
-    let e : 16 * suc k ≡ 16 + 16 * k = omega arith in
-    ap (λ (n : ℕ). take 16 (drop n (channelBytes c ++ channelsBytes cs))) e
-    ∙ ap (take 16) (sym (drop-drop (16 * k) 16 (channelBytes c ++ channelsBytes cs)) ∙ ap (drop (16 * k)) (drop-at (channelBytes c) (channelsBytes cs) 16 (channel-length c)))
-    ∙ piece cs k d (omega arith)
 
 module _ (e : Entered) (g strikes : ℕ) (cs : List Channel) where
   abbrev whole : List ℕ
@@ -48,21 +39,12 @@ module _ (e : Entered) (g strikes : ℕ) (cs : List Channel) where
       append-assoc (front e g) (bytesOf 4 strikes ++ long) (channelsBytes cs)
       ∙ ap (λ (l : List ℕ). front e g ++ l) (append-assoc (bytesOf 4 strikes) long (channelsBytes cs))
 
-  at-mask : drop 16 whole ≡ bytesOf 4 strikes ++ (long ++ channelsBytes cs)
-  at-mask = ap (drop 16) parts ∙ drop-at (front e g) _ 16 (front-length e g)
-
-  at-long : drop 20 whole ≡ long ++ channelsBytes cs
-  at-long = sym (drop-drop 4 16 whole) ∙ ap (drop 4) at-mask ∙ drop-at (bytesOf 4 strikes) (long ++ channelsBytes cs) 4 (bytes-length 4 strikes)
-
-  at-channels : drop 24 whole ≡ channelsBytes cs
-  at-channels = sym (drop-drop 4 20 whole) ∙ ap (drop 4) at-long ∙ drop-at long (channelsBytes cs) 4 (bytes-length 4 (lengthOf (e .path .clock)))
-
   -- the row head without its strike mask
   pub head-is : headIn whole ≡ front e g ++ long
   unfolding headIn
   head-is =
       λ i. (ap (take 16) parts ∙ take-at (front e g) _ 16 (front-length e g)) i
-      ++ (ap (take 4) at-long ∙ take-at long (channelsBytes cs) 4 (bytes-length 4 (lengthOf (e .path .clock)))) i
+      ++ (ap (take 4) (at-length e g strikes cs) ∙ take-at long (channelsBytes cs) 4 (bytes-length 4 (lengthOf (e .path .clock)))) i
 
   -- bit k of the strike mask
   pub strike-is : (k : ℕ) → strikes < 2 ^ 32 → strikeIn k whole ≡ bitOf strikes k
@@ -72,4 +54,12 @@ module _ (e : Entered) (g strikes : ℕ) (cs : List Channel) where
   -- channel k
   pub channel-is : (k : ℕ) (d : Channel) → k < length cs → channelIn k whole ≡ channelBytes (getD cs k d)
   unfolding channelIn
-  channel-is k d h = ap (take 16) (sym (drop-drop (16 * k) 24 whole) ∙ ap (drop (16 * k)) at-channels) ∙ piece cs k d h
+  channel-is k d h = ap (take 16) (at-channel e g strikes cs k d h) ∙ take-at (channelBytes (getD cs k d)) _ 16 (channel-length (getD cs k d))
+
+-- a channel's frequency stands in its first bytes
+pub frequency-in : (r : List ℕ) (k : ℕ) → frequencyBits r k ≡ littleAt 4 (channelIn k r) 0
+unfolding channelIn
+frequency-in r k = λ i. 0 + byte 0 (omega arith) i * 256 ^ 0 + byte 1 (omega arith) i * 256 ^ 1 + byte 2 (omega arith) i * 256 ^ 2 + byte 3 (omega arith) i * 256 ^ 3
+  where
+    byte : (n : ℕ) → n < 16 → getD r (24 + 16 * k + n) 0 ≡ getD (take 16 (drop (24 + 16 * k) r)) n 0
+    byte n h = sym (getD-take 16 (drop (24 + 16 * k) r) n 0 h ∙ getD-drop (24 + 16 * k) r n 0)

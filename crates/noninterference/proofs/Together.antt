@@ -10,6 +10,7 @@ use Rattle.laws.specs.Choice.{pick}
 use Rattle.laws.specs.Masks.{bitOf}
 use Rattle.tune.specs.Sizes.{patternCount}
 use Rattle.tune.specs.Cells.{rowCells}
+use Rattle.tune.specs.Numbers.{littleAt, bytesOf}
 use Rattle.row_path.specs.Card.{lengthOf}
 use Rattle.row_path.specs.declared.machine.Entered.{Entered}
 use Rattle.channel.specs.Row.{channelEntered}
@@ -20,14 +21,16 @@ use Rattle.channel.specs.declared.channels.Rowed.{Rowed}
 use Rattle.channel.proofs.Own.{channel-at, strike-at}
 use Rattle.channel.proofs.Volumes.{volume-alike}
 use Rattle.section.specs.Tables.{Tune}
-use Rattle.tune.specs.Numbers.{bytesOf}
 use Rattle.section.specs.Records.{channelBytes}
 use Rattle.section.specs.Machines.{Voices, rowPlayed, recordOf, voicesAfter, recordsOf, voicesBehind}
 use Rattle.section.proofs.Sizes.{played-count, strikes-below}
+use Rattle.sheet.specs.Strikes.{strikesOf}
+use Rattle.sheet.specs.Listing.{chosenOf}
+use Rattle.sheet.proofs.Chosen.{chosen-alike}
 use Rattle.noninterference.specs.Revoiced.{Revoiced}
 use Rattle.noninterference.specs.Kept.{headIn, strikeIn, channelIn, missing}
 use Rattle.noninterference.proofs.Cells.{own-cells, volume-cells}
-use Rattle.noninterference.proofs.Bytes.{front, head-is, strike-is, channel-is}
+use Rattle.noninterference.proofs.Bytes.{front, head-is, strike-is, channel-is, frequency-in}
 
 -- 32 channels on both sides, the chosen ones equal, and one global volume
 pub record Alike (chosen : ℕ → Bool) (x y : Voices) : Type 0 where
@@ -132,3 +135,12 @@ module _ (chosen : ℕ → Bool) (A B : Tune) (whole : length (A .tables .cells)
       channel-is e (x .globalVolume) (rowPlayed (A .tables) w e x .strikes) (rowPlayed (A .tables) w e x .channels) k missing (omega (arith, played-count (A .tables) w e x, a .first-count))
       ∙ ap channelBytes (played-alike e x y a .channel k l g)
       ∙ sym (channel-is e (y .globalVolume) (rowPlayed (B .tables) w e y .strikes) (rowPlayed (B .tables) w e y .channels) k missing (omega (arith, played-count (B .tables) w e y, a .second-count)))
+
+  -- and so is the order in which Strikes lists the chosen channels
+  pub list-seen : Seen (λ r. chosenOf chosen (strikesOf r))
+  unfolding strikeIn
+  list-seen e x y a =
+      let r = recordOf (A .tables) w e x in
+      let s = recordOf (B .tables) w e y in
+      chosen-alike chosen r s
+      (λ k l g. (strike-seen k l g e x y a, frequency-in r k ∙ ap (λ (c : List ℕ). littleAt 4 c 0) (channel-seen k l g e x y a) ∙ sym (frequency-in s k)))

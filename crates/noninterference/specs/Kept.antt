@@ -15,6 +15,8 @@ use Rattle.section.specs.Tables.{Tables, Tune}
 use Rattle.section.specs.Open.{openRule}
 use Rattle.section.specs.Records.{headSize, channelSize}
 use Rattle.section.specs.Section.{Answer, Refused, Gave, joined}
+use Rattle.sheet.specs.Strikes.{strikesOf}
+use Rattle.sheet.specs.Listing.{chosenOf}
 use Rattle.noninterference.specs.Revoiced.{Revoiced, Lent}
 use Rattle.noninterference.specs.Calls.{Call, allowed, stateOf, recordsIn, countOf, refusalOf, endingOf, answersOf, sizesGiven, granted}
 use Rattle.noninterference.specs.Machines.{opened, pathOf, machineRecords, machineState}
@@ -38,13 +40,15 @@ unfoldable pub channelOf : ℕ → State → Channel
 channelOf k s = getD (s .channels) k missing
 
 -- the same row counts, endings and refusals, the same row heads (of the strike masks only bit k), and the same channel k
--- in records and state, for each chosen k; the path's part of the state, which keeps the channels' last S infos, is the same
+-- in records and state, for each chosen k; Strikes lists the chosen channels of each record in the same order; the path's
+-- part of the state, which keeps the channels' last S infos, is the same
 pub record Same (chosen : ℕ → Bool) (xs ys : List Answer) : Type 0 where
   pub refusals : map refusalOf xs ≡ map refusalOf ys
   pub counts : map countOf xs ≡ map countOf ys
   pub endings : map endingOf xs ≡ map endingOf ys
   pub heads : map (λ a. map headIn (recordsIn a)) xs ≡ map (λ a. map headIn (recordsIn a)) ys
   pub strikes : (k : ℕ) → k < 32 → T (chosen k) → map (λ a. map (strikeIn k) (recordsIn a)) xs ≡ map (λ a. map (strikeIn k) (recordsIn a)) ys
+  pub lists : map (λ a. map (λ r. chosenOf chosen (strikesOf r)) (recordsIn a)) xs ≡ map (λ a. map (λ r. chosenOf chosen (strikesOf r)) (recordsIn a)) ys
   pub channels : (k : ℕ) → k < 32 → T (chosen k) → map (λ a. map (channelIn k) (recordsIn a)) xs ≡ map (λ a. map (channelIn k) (recordsIn a)) ys
   pub states : (k : ℕ) → k < 32 → T (chosen k) → map (λ a. channelOf k (stateOf a)) xs ≡ map (λ a. channelOf k (stateOf a)) ys
   pub paths : map (λ a. stateOf a .path) xs ≡ map (λ a. stateOf a .path) ys
