@@ -1,12 +1,13 @@
 //! Calls of the border's six functions, bytes in and bytes out, and the judge of what they answer: the original for
-//! Open and Section, 01's reader for Measure and Read, 01's words for Strikes and Line and for every refusal.
+//! Open and Section, 01's reader for Measure and Read, 02's words for Strikes, and 01's for Line and for every refusal.
 
 use crate::player::bridge::{Original, open};
 use crate::reader::{self, Lent};
 use crate::rules::{self, COUNTS_BYTES};
 use crate::sheet;
 use crate::state::STATE_BYTES;
-use crate::tune::{OPENING_BYTES, Opening, RECORD_BYTES, Tune, le32};
+use crate::strikes;
+use crate::tune::{OPENING_BYTES, Opening, RECORD_BYTES, Tune};
 
 /// What lies in the bytes that a call may write, beforehand.
 pub const UNTOUCHED: u8 = 0xA5;
@@ -166,11 +167,10 @@ fn write(call: &Call, slots: &mut Slots) -> Result<u32, u8> {
     Ok(0)
 }
 
-/// The struck channels, in the order of their numbers: 01 leaves it free, and the port lists them so.
+/// The struck channels and 0 behind them, in the first 32 bytes; how many there are.
 fn strikes(slots: &mut Slots) -> u32 {
-    let mask = le32(&slots[0], 16);
-    let struck: Vec<u8> = (0..32).filter(|channel| mask >> channel & 1 == 1).collect();
+    let struck = strikes::struck(&slots[0]);
     slots[1][..rules::STRIKES_BYTES].fill(0);
     slots[1][..struck.len()].copy_from_slice(&struck);
-    mask.count_ones()
+    struck.len() as u32
 }

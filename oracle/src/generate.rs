@@ -3,6 +3,7 @@
 mod cells;
 pub mod files;
 pub mod pitch;
+pub mod records;
 pub mod refused;
 mod states;
 mod tunes;

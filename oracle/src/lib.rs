@@ -14,6 +14,7 @@ pub mod record;
 pub mod rules;
 pub mod sheet;
 pub mod state;
+pub mod strikes;
 pub mod tune;
 pub mod writer;
 

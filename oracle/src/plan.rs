@@ -2,6 +2,7 @@
 //! that show something which none before them did.
 
 mod pitch;
+mod strikes;
 
 use crate::calls::{Call, Function};
 use crate::cover;
@@ -31,13 +32,17 @@ const RECORDS: usize = 23;
 const SPARE: [usize; 4] = [0, 1, 7, 535];
 
 pub fn recorded() -> Vec<Case> {
-    let groups = file_groups()
+    let strikes = strikes::groups();
+    let first = strikes.len() + FIRST_FILES;
+    let groups = strikes
+        .into_iter()
+        .chain(file_groups())
         .chain(pitch::groups())
         .chain((0..VISITED).flat_map(visits))
         .chain((0..WALKS).map(walked))
         .chain(refused())
         .chain((0..PARTED).map(parted));
-    let mut cases = cover::telling(groups, FIRST_FILES);
+    let mut cases = cover::telling(groups, first);
     let sections = cases.iter().filter(|case| case.call.function == Function::Section);
     let rows = sections.flat_map(|case| case.answer.records()).step_by(RECORDS);
     let calls = |row| [Function::Strikes, Function::Line].map(|function| Call::of_record(function, row, 70));

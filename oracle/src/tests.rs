@@ -1,10 +1,11 @@
 //! What neither the comparison of the list nor that at scale would show.
 
-use crate::calls::Call;
-use crate::generate::pitch;
+use crate::calls::{Call, Function, UNTOUCHED};
+use crate::generate::{pitch, records};
 use crate::list::{self, Case};
 use crate::player::bridge::{open, walk};
-use crate::tune::{CELL, EMPTY_CELL, PATTERN_BYTES, ROW_BYTES, Tune, le32, le64};
+use crate::strikes::struck;
+use crate::tune::{CELL, EMPTY_CELL, PATTERN_BYTES, RECORD_BYTES, ROW_BYTES, Tune, le32, le64};
 
 #[test]
 fn a_list_is_read_whole_or_misread() {
@@ -60,4 +61,48 @@ fn the_card_is_02s() {
     ];
     assert_eq!(seen, expected);
     assert_eq!((last.card.start, last.card.remainder), (31_628, 152));
+}
+
+/// Frequencies of the first channels, all struck, and the list that 02 gives them.
+#[test]
+fn strikes_are_02s() {
+    let (nan, infinity) = (f32::NAN, f32::INFINITY);
+    let [next, before] = [8363.0f32.next_up(), 8363.0f32.next_down()];
+    let [payload, signalling] = [0x7FC0_0001, 0x7F80_0001].map(f32::from_bits);
+    let least = f32::from_bits(1);
+    let cases: [(&[f32], &[u8]); 13] = [
+        (&[], &[]),
+        (&[440.0], &[0]),
+        (&[440.0, 220.0, 880.0, 110.0], &[3, 1, 0, 2]),
+        (&[110.0, 220.0, 440.0], &[0, 1, 2]),
+        (&[440.0, 220.0, 440.0, 220.0], &[1, 3, 0, 2]),
+        (&[next, 8363.0, before], &[2, 1, 0]),
+        (&[0.0, -0.0], &[0, 1]),
+        (&[-0.0, 0.0], &[0, 1]),
+        (&[1.0, 0.0, -1.0, -0.0, least, 0.0, -least], &[2, 6, 1, 3, 5, 4, 0]),
+        (&[-1.0, -3.0, -2.0, -f32::MAX], &[3, 1, 2, 0]),
+        (&[infinity, f32::MAX, -infinity, f32::MIN], &[2, 3, 1, 0]),
+        (&[nan, infinity, -nan, -infinity, signalling, 0.0], &[3, 5, 1, 0, 2, 4]),
+        (
+            &[payload, -signalling, nan, -payload, signalling, -nan],
+            &[0, 1, 2, 3, 4, 5],
+        ),
+    ];
+    for (frequencies, expected) in cases {
+        let mut record = [0x5A; RECORD_BYTES];
+        let mask = (1 << frequencies.len()) - 1;
+        records::put(&mut record, mask, frequencies.iter().map(|one| one.to_bits()));
+        assert_eq!(struck(&record), expected, "{frequencies:?}");
+    }
+}
+
+/// Three channels, with 0 behind them, and the bytes behind those as they were.
+#[test]
+fn strikes_are_put_into_32_bytes() {
+    let mut record = [0; RECORD_BYTES];
+    records::put(&mut record, 0xC000_0020, (1..=32).map(|k| (-k as f32).to_bits()));
+    let answer = Case::of(Call::of_record(Function::Strikes, &record, 40)).answer;
+    let expected = [&[31, 30, 5][..], &[0; 29], &[UNTOUCHED; 8]].concat();
+    assert_eq!((answer.number, &answer.slots[1]), (3, &expected));
+    assert_eq!(answer.slots[0], record);
 }

@@ -6,6 +6,7 @@ mod files;
 mod refusals;
 mod rows;
 mod sections;
+mod strikes;
 
 use crate::calls::Function;
 use crate::list::Case;
@@ -18,7 +19,7 @@ use std::path::Path;
 const MOST_BYTES: u64 = 3_000_000;
 
 /// So many things are asked for: none may drop out because nothing looks for it.
-const ASKED: usize = 5_895;
+const ASKED: usize = 6_178;
 
 /// Where a thing must be seen, behind its name: anywhere, from states, or there and along walks from Open.
 type Needed = &'static [&'static str];
@@ -146,7 +147,7 @@ pub fn telling(groups: impl Iterator<Item = Vec<Case>>, first: usize) -> Vec<Cas
 /// A tally that asks for all that no look names.
 fn asked() -> Tally {
     let mut tally = Tally::default();
-    for needs in [files::needs, rows::needs, refusals::needs] {
+    for needs in [files::needs, rows::needs, refusals::needs, strikes::needs] {
         needs(&mut tally);
     }
     tally
@@ -168,7 +169,8 @@ fn see(tally: &mut Tally, sections: &mut Sections, case: &Case) -> Result<(), St
         Function::Measure | Function::Read => files::see(tally, case)?,
         Function::Open => sections.opened(tally, case),
         Function::Section => sections.section(tally, case)?,
-        Function::Strikes | Function::Line => refusals::see_record(tally, case),
+        Function::Strikes => strikes::see(tally, case, sections.gave(&case.call.slots[0])),
+        Function::Line => refusals::see_line(tally, case),
     }
     Ok(())
 }

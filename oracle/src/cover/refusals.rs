@@ -1,7 +1,6 @@
 //! Refusals by rules 9 to 13 and by 255: each way to break them alone, and the order in which they are asked.
 
 use super::Tally;
-use crate::calls::Function;
 use crate::card::unit;
 use crate::list::Case;
 use crate::rules;
@@ -16,7 +15,6 @@ pub fn needs(tally: &mut Tally) {
     tally.family("read by rule {}", ["255", "255, file of 0 bytes"]);
     tally.family("rules 12: {}", ["n above 65,535; output too short"]);
     tally.family("strikes into {} bytes", [31, 32]);
-    tally.family("strikes of {}", [0, 32]);
     tally.family("line into {} bytes", [63, 64]);
 }
 
@@ -57,14 +55,10 @@ fn see_remainder(tally: &mut Tally, state: Option<&Vec<u8>>) {
     ]);
 }
 
-/// A record that Strikes or Line takes.
-pub fn see_record(tally: &mut Tally, case: &Case) {
-    let (function, [record, output, ..]) = (case.call.function, &case.call.slots);
-    tally.note(format!("{} into {} bytes", function.name(), output.len()));
-    if function == Function::Strikes {
-        tally.note(format!("strikes of {}", case.answer.number));
-        return tally.anywhere([(output.len() > 32, "strikes into more than 32 bytes")]);
-    }
+/// A record that Line takes.
+pub fn see_line(tally: &mut Tally, case: &Case) {
+    let [record, output, ..] = &case.call.slots;
+    tally.note(format!("line into {} bytes", output.len()));
     tally.anywhere([
         (output.len() > 64, "line into more than 64 bytes"),
         (record.iter().all(|&byte| byte == 255), "line of the largest numbers"),

@@ -9,6 +9,7 @@ use crate::player::bridge::{cell, walk};
 use crate::rules::MOST_START;
 use crate::state::{CHANNEL_BYTES, HEAD_BYTES, NO_VOICE, RELEASED, S_SLOT, State, voice_mark};
 use crate::tune::{RECORD_BYTES, Tune, le32};
+use std::collections::BTreeSet;
 
 /// A section that was not refused, to be found again in parts: the tables and the state that it was lent, its records and
 /// the state behind it.
@@ -26,6 +27,7 @@ pub struct Sections {
     wholes: Vec<Whole>,
     /// The sections of as many rows that went on from each other.
     chain: Option<Whole>,
+    rows: BTreeSet<Vec<u8>>,
 }
 
 impl Sections {
@@ -55,11 +57,17 @@ impl Sections {
             return Err("the original walks otherwise".to_string());
         }
         see_given(tally, &tune, &records, &last);
+        self.rows.extend(records.chunks_exact(RECORD_BYTES).map(<[u8]>::to_vec));
         self.see_parts(tally, case, records);
         if tally.walking {
             self.walked.clone_from(&case.answer.slots[3]);
         }
         Ok(())
+    }
+
+    /// Whether a record is one that a section gave.
+    pub fn gave(&self, record: &[u8]) -> bool {
+        self.rows.contains(record)
     }
 
     /// Adds the section to the chain that it goes on from, and looks for a whole one that the chain is.
