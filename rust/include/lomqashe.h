@@ -3,10 +3,9 @@
  *
  * Six functions over numbers and bytes, in the archive target/staticlib/liblomqashe.a that
  * `rt staticlib lomqashe` writes. Each result, and every byte written, is proved equal to a
- * definition in crates/lomqashe/specs, for all inputs (of lomqashe_strikes() the order of the
- * channels is left open): no length and no value is a mistake that a function doesn't answer. They
- * keep nothing between calls, allocate nothing, call nothing but memcpy and memset, and may be
- * called from several threads at once.
+ * definition in crates/lomqashe/specs, for all inputs: no length and no value is a mistake that a
+ * function doesn't answer. They keep nothing between calls, allocate nothing, call nothing but memcpy
+ * and memset, and may be called from several threads at once.
  *
  * The archive is for x86-64: ELF objects, the System V calling convention. It links into programs,
  * position independent ones too, and into shared objects.
@@ -195,10 +194,15 @@ uint32_t lomqashe_section(const uint8_t *orders, size_t orders_size,
 
 /*
  * lomqashe_strikes() lists the channels that a record strikes, each once, in the first bytes of
- * out, in no order that is promised; the others of its first 32 bytes become 0, and the bytes
+ * out, from the lowest frequency up; the others of its first 32 bytes become 0, and the bytes
  * behind are left as they were.
  *
- * Gives the number of channels. Refuses with 13.
+ * The frequency of channel k is in the record's bytes 24 + 16 * k to 27 + 16 * k. Equal ones, and 0
+ * and -0 are equal, stand by channel number. Minus infinity comes before every number and infinity
+ * behind every number. Channels whose frequency is not a number come last, by channel number,
+ * whatever its bits.
+ *
+ * Gives the number of channels, that of the mask's ones. Refuses with 13.
  */
 uint32_t lomqashe_strikes(const uint8_t *record, size_t record_size,
                           uint8_t *out, size_t out_size);

@@ -132,6 +132,7 @@ pub fn section(
     })
 }
 
+/// The struck channels go into `out` from the lowest frequency up.
 pub fn strikes(record: &[u8], out: &mut [u8]) -> Result<u32, Refusal> {
     answer(unsafe { raw::lomqashe_strikes(record.as_ptr(), record.len(), out.as_mut_ptr(), out.len()) })
 }
@@ -209,9 +210,12 @@ mod tests {
     #[test]
     fn bytes_behind_strikes_and_line_stay() {
         let mut record = [0; 536];
-        record[16] = 0b101;
+        record[16] = 0b110;
+        // The frequency of channel 1 is above 0, which channel 2 has.
+        record[24 + 16 + 3] = 0x46;
         let mut out = [UNTOUCHED; 70];
         assert_eq!(strikes(&record, &mut out), Ok(2));
+        assert_eq!(out[..2], [2, 1]);
         assert_eq!(out[2..32], [0; 30]);
         assert!(out[32..].iter().all(|&byte| byte == UNTOUCHED));
         let mut out = [UNTOUCHED; 70];

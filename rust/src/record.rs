@@ -119,7 +119,8 @@ impl Record {
         u32_at(&self.0, 16)
     }
 
-    /// The struck channels, each once, in no order that is promised.
+    /// The struck channels from the lowest frequency up, the way that a punch head goes from the bass side. [`Strikes`] has
+    /// the order in full.
     pub fn strikes(&self) -> Strikes {
         let mut channels = [0; CHANNELS];
         let count = ffi::strikes(&self.0, &mut channels).expect("the lengths are right");
@@ -192,16 +193,23 @@ impl ChannelRecord {
     }
 }
 
-/// The struck channels of a row.
+/// The struck channels of a row, each once, by their [`ChannelRecord::frequency`], the lowest first.
+///
+/// Equal ones, and 0 and -0 are equal, stand by channel number. Minus infinity comes before every number and infinity
+/// behind every number. Channels whose frequency is not a number come last, by channel number.
 ///
 /// ```
-/// let tune = lomqashe::Tune::read(include_bytes!("../../oracle/examples/worked.s3m"), 60_000)?;
-/// for record in tune.rows(50)? {
-///     for channel in record.strikes() {
-///         println!("a slot of channel {channel} at {}", record.start());
-///     }
+/// let mut bytes = [0; lomqashe::RECORD_BYTES];
+/// // Channels 0, 1 and 3 strike, 1 and 3 an octave below 0.
+/// bytes[16] = 0b1011;
+/// for (channel, frequency) in [(0, 880.0_f32), (1, 440.0), (3, 440.0)] {
+///     bytes[24 + 16 * channel..][..4].copy_from_slice(&frequency.to_le_bytes());
 /// }
-/// # Ok::<(), lomqashe::Refusal>(())
+/// let record = lomqashe::Record::from_bytes(&bytes);
+/// assert_eq!(record.strikes().as_slice(), [1, 3, 0]);
+/// for channel in record.strikes() {
+///     println!("a slot of channel {channel} at {}", record.start());
+/// }
 /// ```
 #[derive(Clone, Copy, PartialEq, Eq, Hash)]
 pub struct Strikes {
@@ -210,7 +218,7 @@ pub struct Strikes {
 }
 
 impl Strikes {
-    /// The channels, each once, in no order that is promised.
+    /// The channels, the one with the lowest frequency first.
     pub fn as_slice(&self) -> &[u8] {
         &self.channels[..self.count]
     }
