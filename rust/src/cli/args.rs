@@ -1,5 +1,6 @@
 //! The words of a command line.
 
+use super::sheet::Form;
 use std::ffi::{OsStr, OsString};
 use std::os::unix::ffi::OsStrExt;
 use std::path::PathBuf;
@@ -16,7 +17,7 @@ pub struct Args {
     pub rate: Option<u32>,
     pub rows: u64,
     pub sections: u32,
-    pub channels: bool,
+    pub form: Form,
     pub once: bool,
     pub svg: Option<PathBuf>,
     pub save: Option<PathBuf>,
@@ -30,7 +31,7 @@ impl Default for Args {
             rate: None,
             rows: 10_000,
             sections: 50,
-            channels: false,
+            form: Form::Rows,
             once: false,
             svg: None,
             save: None,
@@ -123,10 +124,8 @@ pub fn parse(mut words: impl Iterator<Item = OsString>) -> Result<Wish, String> 
 
 fn option(args: &mut Args, word: &Word, words: &mut impl Iterator<Item = OsString>) -> Result<(), String> {
     match word.name.as_str() {
-        "--channels" => {
-            word.alone()?;
-            args.channels = true;
-        }
+        "--channels" => form(args, word, Form::Channels)?,
+        "--strikes" => form(args, word, Form::Strikes)?,
         "--once" => {
             word.alone()?;
             args.once = true;
@@ -139,5 +138,14 @@ fn option(args: &mut Args, word: &Word, words: &mut impl Iterator<Item = OsStrin
         "--from" => args.from = word.path(words)?,
         name => return Err(format!("there is no option {name}")),
     }
+    Ok(())
+}
+
+fn form(args: &mut Args, word: &Word, form: Form) -> Result<(), String> {
+    word.alone()?;
+    if args.form != Form::Rows && args.form != form {
+        return Err("--strikes does not go with --channels: a sheet has lines of one form".into());
+    }
+    args.form = form;
     Ok(())
 }

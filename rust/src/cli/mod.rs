@@ -29,7 +29,8 @@ Reads standard input where no file is named, or where it is -.
   --rows N        stop behind so many rows, and say `more` (10000)
   --once          stop before the rows of an endless tune come again, and say `repeats`
   --sections N    cut the book in sections of N rows, 1 to 65535 (50); the sheet is the same
-  --channels      print what the 32 channels do, a line for each row and channel
+  --strikes       print the struck channels, a line for each row: those of the lowest frequency first
+  --channels      print what the 32 channels do, a line for each row and channel; not with --strikes
   --svg FILE      draw the book: the card along, 32 channels across, a slot for each strike
   --save FILE     write the state behind the last row to a file
   --from FILE     go on from a state that --save wrote, with the same tune
@@ -106,7 +107,7 @@ fn print(args: &Args, out: &mut impl Write) -> Result<(), Trouble> {
     files::keep_apart(args)?;
     let file = files::read_tune(args.file.as_deref())?;
     let saved = args.from.as_deref().map(Saved::read).transpose()?;
-    let mut printer = Printer::new(out, args.channels);
+    let mut printer = Printer::new(out, args.form);
     let mut plan = Plan::default();
     let printed = print_rows(&file, saved, args, &mut printer, &mut plan);
     if let Err(refusal) = &printed {

@@ -4,25 +4,41 @@ use lomqashe::{ChannelRecord, Record, Refusal, Voice};
 use std::io::{self, Write};
 
 const TITLE: &str = "order,pattern,row,held,speed,tempo,start,length,strikes";
+const STRIKES_TITLE: &str = "order,pattern,row,held,start,channels";
 const CHANNEL_TITLE: &str = "order,pattern,row,held,speed,tempo,global_volume,start,length,channel,struck,active,\
     frequency,target,instrument,volume,pan,last_note,delay_tick,voice_global_volume,voice";
+
+/// What a sheet has lines of.
+#[derive(Clone, Copy, PartialEq, Eq)]
+pub enum Form {
+    /// A row each.
+    Rows,
+    /// A row each, with the channels that are struck.
+    Strikes,
+    /// A row and channel each.
+    Channels,
+}
 
 /// Prints a sheet while it can. Behind the first error it prints nothing, and keeps that error.
 pub struct Printer<W: Write> {
     out: W,
-    /// A line for each row and channel, and not for each row.
-    channels: bool,
+    form: Form,
     trouble: Option<io::Error>,
 }
 
 impl<W: Write> Printer<W> {
-    pub fn new(out: W, channels: bool) -> Printer<W> {
+    pub fn new(out: W, form: Form) -> Printer<W> {
         let mut printer = Printer {
             out,
-            channels,
+            form,
             trouble: None,
         };
-        printer.put(&format!("{}\n", if channels { CHANNEL_TITLE } else { TITLE }));
+        let title = match form {
+            Form::Rows => TITLE,
+            Form::Strikes => STRIKES_TITLE,
+            Form::Channels => CHANNEL_TITLE,
+        };
+        printer.put(&format!("{title}\n"));
         printer
     }
 
@@ -31,11 +47,14 @@ impl<W: Write> Printer<W> {
     }
 
     pub fn row(&mut self, record: &Record) {
-        if !self.channels {
-            return self.put(&record.line());
-        }
-        for (number, channel) in record.channels().iter().enumerate() {
-            self.put(&channel_line(record, number, channel));
+        match self.form {
+            Form::Rows => self.put(&record.line()),
+            Form::Strikes => self.put(&strikes_line(record)),
+            Form::Channels => {
+                for (number, channel) in record.channels().iter().enumerate() {
+                    self.put(&channel_line(record, number, channel));
+                }
+            }
         }
     }
 
@@ -61,6 +80,19 @@ impl<W: Write> Printer<W> {
             self.trouble = self.out.write_all(text.as_bytes()).err();
         }
     }
+}
+
+fn strikes_line(record: &Record) -> String {
+    let channels: Vec<String> = record.strikes().into_iter().map(|k| k.to_string()).collect();
+    format!(
+        "{},{},{},{},{},{}\n",
+        record.order(),
+        record.pattern(),
+        record.row(),
+        u8::from(record.held()),
+        record.start(),
+        channels.join(" "),
+    )
 }
 
 fn channel_line(record: &Record, number: usize, channel: &ChannelRecord) -> String {

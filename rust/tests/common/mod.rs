@@ -83,12 +83,14 @@ pub fn put(row: usize, channel: u8, command: u8, info: u8) -> Put {
 }
 
 pub fn note(row: usize, channel: u8) -> Put {
+    pitched(row, channel, 0x40)
+}
+
+/// A note by its byte: octave in the high nibble, semitone in the low one.
+pub fn pitched(row: usize, channel: u8, byte: u8) -> Put {
     Put {
-        row,
-        channel,
-        note: Some(0x40),
-        command: 0,
-        info: 0,
+        note: Some(byte),
+        ..put(row, channel, 0, 0)
     }
 }
 
