@@ -1,7 +1,8 @@
 /* The header and the archive alone. Prints the sheet of the S3M file on standard input. With the argument `null` it tries
- * NULL with length 0 everywhere, with `stack` how much stack the calls on that file take. */
+ * NULL with length 0 everywhere, with `strikes` their order, with `stack` how much stack the calls on that file take. */
 #define _GNU_SOURCE
 #include "lomqashe.h"
+#include <math.h>
 #include <stdio.h>
 #include <stdlib.h>
 #include <string.h>
@@ -155,6 +156,20 @@ static void null_refusals(void)
     expect_refusal(lomqashe_line(records, LOMQASHE_RECORD_SIZE, NULL, 0), 13, "line into NULL");
 }
 
+/* Struck channels by frequency: equal ones by number, those that are not a number last. Channel 9 on are not struck. */
+static void strikes_in_order(void)
+{
+    static const float frequencies[] = {NAN, 8363, -0.0f, INFINITY, 0, 4181.5f, -INFINITY, -1, 8363};
+    static const uint8_t expected[LOMQASHE_STRIKES_SIZE] = {6, 7, 2, 4, 5, 1, 8, 3, 0};
+    records[16] = 0xff;
+    records[17] = 1;
+    for (size_t k = 0; k < sizeof frequencies / sizeof *frequencies; k++)
+        memcpy(records + 24 + 16 * k, frequencies + k, 4);
+    memset(struck, 0xa5, sizeof struck);
+    list_strikes();
+    check(answer == 9 && memcmp(struck, expected, sizeof struck) == 0, "strikes in order");
+}
+
 #define STACK 65536
 #define MOST_STACK 32768
 #define PAINT 0xa5
@@ -196,6 +211,8 @@ int main(int argc, char **argv)
     file_size = fread(file, 1, sizeof file, stdin);
     if (argc < 2) {
         print_sheet();
+    } else if (strcmp(argv[1], "strikes") == 0) {
+        strikes_in_order();
     } else if (strcmp(argv[1], "stack") == 0) {
         stacks();
     } else {
