@@ -2,11 +2,11 @@
 //! the original's.
 
 use crate::both::Both;
-use lomqashe::{Record, Tune, measure};
+use lomqashe::{Tune, measure};
 use oracle::calls::Call;
 use oracle::generate::{self, Purpose};
 use oracle::random::Random;
-use oracle::{plan, reader, sheet, writer};
+use oracle::{plan, reader, sheet, strikes, writer};
 
 /// Every so many files are read through rust/ and walked.
 const WALKED: usize = 10;
@@ -72,7 +72,7 @@ fn walked(file: &[u8]) -> Result<usize, String> {
     let rows = tune.rows(50).map_err(|refusal| refusal.to_string())?;
     let mut ours = Vec::new();
     for record in rows.take(500) {
-        if !lists_its_mask(&record) {
+        if record.strikes().as_slice() != strikes::struck(record.as_bytes()) {
             return Err("rust/ lists other strikes".to_string());
         }
         ours.push(record.line());
@@ -82,10 +82,4 @@ fn walked(file: &[u8]) -> Result<usize, String> {
         return Err("rust/ walks otherwise".to_string());
     }
     Ok(ours.len())
-}
-
-fn lists_its_mask(record: &Record) -> bool {
-    let mask = record.strike_mask();
-    let struck = (0..32).filter(|k| mask >> k & 1 == 1);
-    record.strikes().as_slice().iter().map(|&k| u32::from(k)).eq(struck)
 }

@@ -9,6 +9,7 @@ mod pitch;
 mod recorded;
 mod refusals;
 mod sections;
+mod strikes;
 
 use oracle::random::Random;
 use std::process::ExitCode;
@@ -45,6 +46,10 @@ fn compare(seed: u64, rows: u64) -> Result<(), String> {
     println!(
         "pitch: {}, 0 differences",
         pitch::compare(&mut Random::new(seed ^ 0x717C), rows)?
+    );
+    println!(
+        "strikes: {}, 0 differences",
+        strikes::compare(&mut Random::new(seed ^ 0x57B1), rows / 4)?
     );
     println!(
         "refusals: {}, 0 differences",
