@@ -159,7 +159,7 @@ static void null_refusals(void)
 /* Struck channels by frequency: equal ones by number, those that are not a number last. Channel 9 on are not struck. */
 static void strikes_in_order(void)
 {
-    static const float frequencies[] = {NAN, 8363, -0.0f, INFINITY, 0, 4181.5f, -INFINITY, -1, 8363};
+    static const float frequencies[] = {-NAN, 8363, 0, INFINITY, -0.0f, 4181.5f, -INFINITY, -1, 8363};
     static const uint8_t expected[LOMQASHE_STRIKES_SIZE] = {6, 7, 2, 4, 5, 1, 8, 3, 0};
     records[16] = 0xff;
     records[17] = 1;
