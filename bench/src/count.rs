@@ -2,7 +2,7 @@
 
 use crate::rows::{SECTION, ours, walk};
 use crate::tunes::Kind;
-use crate::{path, reading};
+use crate::{path, reading, strikes};
 use lomqashe::RECORD_BYTES;
 use oracle::player::bridge::{Original, open};
 use oracle::writer;
@@ -44,5 +44,17 @@ pub fn run(kind: &Kind, work: &str) -> bool {
         _ => reading::theirs(&file),
     });
     println!("{per}");
+    true
+}
+
+/// Lists the strikes of the records of a name, by the library or by a sort, and prints how many records there are. False:
+/// there are no such records.
+pub fn strikes(name: &str, library: bool) -> bool {
+    let Some([records, ..]) = strikes::named(name) else {
+        return false;
+    };
+    let lists = if library { strikes::library } else { strikes::sorts };
+    counted_work(&mut || lists(&records));
+    println!("{}", records.len());
     true
 }

@@ -1,17 +1,18 @@
-//! Times the library beside the original, on the same tunes in one run: walking rows, and reading files. README.md says
-//! what each column is.
+//! Times the library beside the original, on the same tunes in one run: walking rows, and reading files; and its lists of
+//! strikes beside a sort. README.md says what each column is.
 
 mod clock;
 mod count;
 mod path;
 mod reading;
 mod rows;
+mod strikes;
 mod tunes;
 
 use std::process::ExitCode;
 use tunes::Kind;
 
-const USAGE: &str = "usage: bench/run [rows | sections | reading]";
+const USAGE: &str = "usage: bench/run [rows | sections | strikes | reading]";
 
 fn main() -> ExitCode {
     let words: Vec<String> = std::env::args().skip(1).collect();
@@ -23,18 +24,22 @@ fn main() -> ExitCode {
             println!();
             rows::sections();
             println!();
+            let listed = strikes::table();
+            println!();
             reading::table();
-            same
+            same && listed
         }
         ["rows"] => rows::table(),
         ["sections"] => {
             rows::sections();
             true
         }
+        ["strikes"] => strikes::table(),
         ["reading"] => {
             reading::table();
             true
         }
+        ["count", name, work @ ("strikes" | "sort")] => count::strikes(name, work == "strikes"),
         ["count", kind, work] => Kind::named(kind).is_some_and(|kind| count::run(kind, work)),
         _ => {
             eprintln!("{USAGE}");

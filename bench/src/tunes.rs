@@ -7,7 +7,7 @@ use oracle::tune::{CELL, CHANNELS, EMPTY_CELL, PATTERN_BYTES, ROW_BYTES, SAMPLE_
 const PATTERNS: usize = 4;
 const ORDERS: usize = 255;
 /// Each kind has a tune for each of these.
-const SEEDS: [u64; 3] = [1, 2, 3];
+pub const SEEDS: [u64; 3] = [1, 2, 3];
 /// Commands that leave the path alone: D to R, then U to Z.
 const COMMANDS: [u8; 21] = [
     4, 5, 6, 7, 8, 9, 10, 11, 12, 13, 14, 15, 16, 17, 18, 21, 22, 23, 24, 25, 26,
@@ -55,7 +55,7 @@ impl Kind {
     }
 
     /// So many cells in each row, half of them with a command.
-    fn tune(&self, seed: u64) -> Tune {
+    pub fn tune(&self, seed: u64) -> Tune {
         let random = &mut Random::new(seed);
         let mut tune = generate::tune(random, Purpose::Visits, 4);
         tune.orders = (0..ORDERS).map(|i| (i % PATTERNS) as u8).collect();
