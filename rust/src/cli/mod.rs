@@ -29,7 +29,7 @@ Reads standard input where no file is named, or where it is -.
   --rows N        stop behind so many rows, and say `more` (10000)
   --once          stop before the rows of an endless tune come again, and say `repeats`
   --sections N    cut the book in sections of N rows, 1 to 65535 (50); the sheet is the same
-  --strikes       print the struck channels, a line for each row: those of the lowest frequency first
+  --strikes       print the struck channels of each row, from the lowest frequency up
   --channels      print what the 32 channels do, a line for each row and channel; not with --strikes
   --svg FILE      draw the book: the card along, 32 channels across, a slot for each strike
   --save FILE     write the state behind the last row to a file
