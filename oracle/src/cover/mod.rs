@@ -169,7 +169,7 @@ fn see(tally: &mut Tally, sections: &mut Sections, case: &Case) -> Result<(), St
         Function::Measure | Function::Read => files::see(tally, case)?,
         Function::Open => sections.opened(tally, case),
         Function::Section => sections.section(tally, case)?,
-        Function::Strikes => strikes::see(tally, case, sections.gave(&case.call.slots[0])),
+        Function::Strikes => strikes::see(tally, case, sections.gave(&case.call.slots[0]))?,
         Function::Line => refusals::see_line(tally, case),
     }
     Ok(())

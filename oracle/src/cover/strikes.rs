@@ -25,7 +25,7 @@ pub fn needs(tally: &mut Tally) {
     tally.family("strikes of {} channels", 0..=CHANNELS);
 }
 
-pub fn see(tally: &mut Tally, case: &Case, from_section: bool) {
+pub fn see(tally: &mut Tally, case: &Case, from_section: bool) -> Result<(), String> {
     let (record, mask) = (&case.call.slots[0], le32(&case.call.slots[0], MASK));
     let frequency = |channel| f32::from_bits(le32(record, frequency_at(channel)));
     let (on, off): (Vec<usize>, Vec<usize>) = (0..CHANNELS).partition(|channel| mask >> channel & 1 == 1);
@@ -38,6 +38,29 @@ pub fn see(tally: &mut Tally, case: &Case, from_section: bool) {
     see_others(tally, record, &on, &off);
     if from_section {
         see_row(tally, &struck(record), &on);
+    }
+    let sound = is_sound(record, &case.answer.slots[1][..on.len()]);
+    sound.then_some(()).ok_or("the list is not that of 02".to_string())
+}
+
+/// Whether a list has the channels of the mask, each two of them as 02 says.
+fn is_sound(record: &[u8], list: &[u8]) -> bool {
+    let mut channels = list.to_vec();
+    channels.sort();
+    let mask = le32(record, MASK);
+    let struck = (0..CHANNELS as u8).filter(|channel| mask >> channel & 1 == 1);
+    let placed = |at| list[..at].iter().all(|&earlier| goes_before(record, earlier, list[at]));
+    channels.into_iter().eq(struck) && (0..list.len()).all(placed)
+}
+
+/// Whether one struck channel stands before another.
+fn goes_before(record: &[u8], one: u8, other: u8) -> bool {
+    let [a, b] = [one, other].map(|channel| f32::from_bits(le32(record, frequency_at(channel.into()))));
+    match (a.is_nan(), b.is_nan()) {
+        (false, true) => true,
+        (true, false) => false,
+        (true, true) => one < other,
+        (false, false) => a < b || a == b && one < other,
     }
 }
 
