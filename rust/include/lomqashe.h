@@ -3,9 +3,10 @@
  *
  * Six functions over numbers and bytes, in the archive target/staticlib/liblomqashe.a that
  * `rt staticlib lomqashe` writes. Each result, and every byte written, is proved equal to a
- * definition in crates/lomqashe/specs, for all inputs: no length and no value is a mistake that a
- * function doesn't answer. They keep nothing between calls, allocate nothing, call nothing but memcpy
- * and memset, and may be called from several threads at once.
+ * definition that the function's contract in crates/lomqashe/src/lib.rt names, for all inputs: no
+ * length and no value is a mistake that a function doesn't answer. They keep nothing between calls,
+ * allocate nothing, call nothing but memcpy and memset, and may be called from several threads at
+ * once.
  *
  * The archive is for x86-64: ELF objects, the System V calling convention. It links into programs,
  * position independent ones too, and into shared objects.
