@@ -24,11 +24,9 @@ use Rattle.section.specs.Tables.{Tune}
 use Rattle.section.specs.Records.{channelBytes}
 use Rattle.section.specs.Machines.{Voices, rowPlayed, recordOf, voicesAfter, recordsOf, voicesBehind}
 use Rattle.section.proofs.Sizes.{played-count, strikes-below}
-use Rattle.sheet.specs.Strikes.{strikesOf}
-use Rattle.sheet.specs.Listing.{chosenOf}
 use Rattle.sheet.proofs.Chosen.{chosen-alike}
 use Rattle.noninterference.specs.Revoiced.{Revoiced}
-use Rattle.noninterference.specs.Kept.{headIn, strikeIn, channelIn, missing}
+use Rattle.noninterference.specs.Kept.{headIn, strikeIn, channelIn, listIn, missing}
 use Rattle.noninterference.proofs.Cells.{own-cells, volume-cells}
 use Rattle.noninterference.proofs.Bytes.{front, head-is, strike-is, channel-is, frequency-in}
 
@@ -137,8 +135,8 @@ module _ (chosen : ℕ → Bool) (A B : Tune) (whole : length (A .tables .cells)
       ∙ sym (channel-is e (y .globalVolume) (rowPlayed (B .tables) w e y .strikes) (rowPlayed (B .tables) w e y .channels) k missing (omega (arith, played-count (B .tables) w e y, a .second-count)))
 
   -- and so is the order in which Strikes lists the chosen channels
-  pub list-seen : Seen (λ r. chosenOf chosen (strikesOf r))
-  unfolding strikeIn
+  pub list-seen : Seen (listIn chosen)
+  unfolding strikeIn listIn
   list-seen e x y a =
       let r = recordOf (A .tables) w e x in
       let s = recordOf (B .tables) w e y in

@@ -16,12 +16,10 @@ use Rattle.section.specs.Open.{freshState}
 use Rattle.section.specs.Machines.{Voices, recordsOf, voicesBehind}
 use Rattle.section.specs.Walk.{voicesOf, stateWith}
 use Rattle.section.specs.Section.{Answer, Refused}
-use Rattle.sheet.specs.Strikes.{strikesOf}
-use Rattle.sheet.specs.Listing.{chosenOf}
 use Rattle.noninterference.specs.Revoiced.{Revoiced, Lent}
 use Rattle.noninterference.specs.Calls.{Call, allowed, stateOf, recordsIn, countOf, refusalOf, endingOf}
 use Rattle.noninterference.specs.Machines.{opened, pathOf, machineRecords, machineState}
-use Rattle.noninterference.specs.Kept.{headIn, strikeIn, channelIn, channelOf, Same}
+use Rattle.noninterference.specs.Kept.{headIn, strikeIn, channelIn, listIn, channelOf, Same}
 use Rattle.noninterference.proofs.Dealt.{grant, gift, share, shares}
 use Rattle.noninterference.proofs.Cells.{steer-alike}
 use Rattle.noninterference.proofs.Together.{pick-two, Alike, Seen, behind-alike, records-alike, head-seen, strike-seen, channel-seen, list-seen}
@@ -108,7 +106,7 @@ module _ (chosen : ℕ → Bool) (A B : Tune) (whole : length (A .tables .cells)
         endings = view endingOf A B (λ m n i. some (path-same (m + n) i .path .ended)) (λ m. refl) 0 cs;
         heads = view (λ a. map headIn (recordsIn a)) A B (rows-view headIn heads) (λ m. refl) 0 cs;
         strikes = λ k h g. view (λ a. map (strikeIn k) (recordsIn a)) A B (rows-view (strikeIn k) (strike-seen chosen A B whole R sw k h g)) (λ m. refl) 0 cs;
-        lists = view (λ a. map (λ r. chosenOf chosen (strikesOf r)) (recordsIn a)) A B (rows-view (λ r. chosenOf chosen (strikesOf r)) (list-seen chosen A B whole R sw)) (λ m. refl) 0 cs;
+        lists = view (λ a. map (listIn chosen) (recordsIn a)) A B (rows-view (listIn chosen) (list-seen chosen A B whole R sw)) (λ m. refl) 0 cs;
         channels = λ k h g. view (λ a. map (channelIn k) (recordsIn a)) A B (rows-view (channelIn k) (channel-seen chosen A B whole R sw k h g)) (λ m. refl) 0 cs;
         states = λ k h g. view (λ a. channelOf k (stateOf a)) A B (λ m n. state-alike (m + n) k h g) (λ m. state-alike m k h g) 0 cs;
         paths = paths-same cs;

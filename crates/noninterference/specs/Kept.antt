@@ -21,7 +21,8 @@ use Rattle.noninterference.specs.Revoiced.{Revoiced, Lent}
 use Rattle.noninterference.specs.Calls.{Call, allowed, stateOf, recordsIn, countOf, refusalOf, endingOf, answersOf, sizesGiven, granted}
 use Rattle.noninterference.specs.Machines.{opened, pathOf, machineRecords, machineState}
 
--- of a record's bytes: the row head without its strike mask, bit k of the mask, and channel k
+-- of a record's bytes: the row head without its strike mask, bit k of the mask, channel k, and the chosen channels in the
+-- order in which Strikes lists them
 unfoldable pub headIn : List ℕ → List ℕ
 headIn r = take 16 r ++ take 4 (drop 20 r)
 
@@ -30,6 +31,9 @@ strikeIn k r = bitOf (littleAt 4 r 16) k
 
 unfoldable pub channelIn : ℕ → List ℕ → List ℕ
 channelIn k r = take channelSize (drop (headSize + channelSize * k) r)
+
+unfoldable pub listIn : (ℕ → Bool) → List ℕ → List ℕ
+listIn chosen r = chosenOf chosen (strikesOf r)
 
 -- what stands for a channel that isn't there
 abbrev pub missing : Channel
@@ -48,7 +52,7 @@ pub record Same (chosen : ℕ → Bool) (xs ys : List Answer) : Type 0 where
   pub endings : map endingOf xs ≡ map endingOf ys
   pub heads : map (λ a. map headIn (recordsIn a)) xs ≡ map (λ a. map headIn (recordsIn a)) ys
   pub strikes : (k : ℕ) → k < 32 → T (chosen k) → map (λ a. map (strikeIn k) (recordsIn a)) xs ≡ map (λ a. map (strikeIn k) (recordsIn a)) ys
-  pub lists : map (λ a. map (λ r. chosenOf chosen (strikesOf r)) (recordsIn a)) xs ≡ map (λ a. map (λ r. chosenOf chosen (strikesOf r)) (recordsIn a)) ys
+  pub lists : map (λ a. map (listIn chosen) (recordsIn a)) xs ≡ map (λ a. map (listIn chosen) (recordsIn a)) ys
   pub channels : (k : ℕ) → k < 32 → T (chosen k) → map (λ a. map (channelIn k) (recordsIn a)) xs ≡ map (λ a. map (channelIn k) (recordsIn a)) ys
   pub states : (k : ℕ) → k < 32 → T (chosen k) → map (λ a. channelOf k (stateOf a)) xs ≡ map (λ a. channelOf k (stateOf a)) ys
   pub paths : map (λ a. stateOf a .path) xs ≡ map (λ a. stateOf a .path) ys
