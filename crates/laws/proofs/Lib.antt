@@ -1,6 +1,7 @@
 pub mod Picks
 pub mod Rules
 pub mod Tables
+pub mod Counts
 pub mod Maps
 pub mod Bits
 pub mod MaskBits

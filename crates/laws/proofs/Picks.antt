@@ -1,10 +1,10 @@
 -- Laws of `pick` and of the tests that it goes by. Assumes nothing.
-use mathlib.Core.Path.{_≡_, refl, sym}
+use mathlib.Core.Path.{_≡_, refl, sym, subst}
 use mathlib.Core.Bool.{Bool, true, false, _&&_, _||_}
 use mathlib.Core.List.{List}
 use Prim.Native.Nat.{ℕ}
 use borrow.Author.Tests.{eqb-true, eqb-false}
-use lib.Dec.{eqb}
+use lib.Dec.{T, eqb}
 use lib.ListN.{length}
 use Rattle.laws.specs.Choice.{pick}
 
@@ -42,6 +42,11 @@ pub same-test : (b d : Bool) → (b ≡ true → d ≡ true) → (b ≡ false �
 same-test true d p q = sym (p refl)
 same-test false d p q = sym (q refl)
 
+pub same-false : (b d : Bool) → (b ≡ false → d ≡ false) → (d ≡ false → b ≡ false) → b ≡ d
+same-false true true p q = refl
+same-false true false p q = q refl
+same-false false d p q = sym (p refl)
+
 -- both of a conjunction that is true, and neither of a disjunction that is false
 pub and-true : (b d : Bool) → (b && d) ≡ true → (b ≡ true) × (d ≡ true)
 and-true true d e = (refl, e)
@@ -50,6 +55,23 @@ and-true false d e = (e, cc)
 pub or-false : (b d : Bool) → (b || d) ≡ false → (b ≡ false) × (d ≡ false)
 or-false true d e = (e, cc)
 or-false false d e = (refl, e)
+
+pub or-none : (b : Bool) → (b || false) ≡ b
+or-none true = refl
+or-none false = refl
+
+-- a conjunction that is false, by its first
+pub and-false : (b d : Bool) → (b ≡ true → d ≡ false) → (b && d) ≡ false
+and-false true d h = h refl
+and-false false d h = refl
+
+pub false-second : (b d : Bool) → (b && d) ≡ false → b ≡ true → d ≡ false
+false-second true d e f = e
+false-second false d e f = cc
+
+-- a test does not say both
+pub not-both : true ≡ false → ⊥
+not-both q = subst (λ (b : Bool). T b) q tt
 
 -- j is n, or it is not
 pub here-or : {P : Type 0} (j n : ℕ) → (j ≡ n → P) → ((j ≡ n → ⊥) → P) → P

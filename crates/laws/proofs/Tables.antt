@@ -11,7 +11,7 @@ use native.Mathlib.Omega.{arith}
 use lib.ListN.{length, getD, drop}
 use lib.Seq.{drop-cons, drop-length}
 use Rattle.laws.specs.Entries.{every, some, pieces, tabulate}
-use Rattle.laws.proofs.Picks.{and-true}
+use Rattle.laws.proofs.Picks.{and-true, or-none}
 
 from : {X : Type 0} (f : ℕ → X → Bool) (xs : List X) (d : X) (i : ℕ) → every f i xs ≡ true → (k : ℕ) → k < length xs → f (i + k) (getD xs k d) ≡ true
 from f [] d i t k h = absurd (not-suc-le-zero h)
@@ -58,6 +58,15 @@ module _ (f : ℕ → Bool) where
   unfolding some
   some-next k e g = rw (add-one, e, g)
 
+  pub some-step : (k : ℕ) → some (k + 1) f ≡ (some k f || f k)
+  unfolding some
+  some-step k = rw add-one
+
+  pub some-nowhere : (n : ℕ) → ((k : ℕ) → k < n → f k ≡ false) → some n f ≡ false
+  unfolding some
+  some-nowhere zero h = refl
+  some-nowhere (suc n) h = rw (some-nowhere n (λ k l. h k (omega arith)), h n (omega arith))
+
   pub some-found : (n k : ℕ) → k < n → f k ≡ true → some n f ≡ true
   unfolding some
   some-found zero k h g = absurd (not-suc-le-zero h)
@@ -86,10 +95,6 @@ module _ (f : ℕ → Bool) where
   pub some-split : (k m : ℕ) → some (k + m) f ≡ (some k f || some m (λ j. f (k + j)))
   unfolding some
   some-split k zero = ap (λ (n : ℕ). some n f) (add-zero k) ∙ sym (or-none (some k f))
-    where
-      or-none : (b : Bool) → (b || false) ≡ b
-      or-none true = refl
-      or-none false = refl
   some-split k (suc m) =
       let e : k + suc m ≡ suc (k + m) = omega arith in
       ap (λ (n : ℕ). some n f) e ∙ ap (λ (b : Bool). b || f (k + m)) (some-split k m) ∙ or-assoc (some k f) (some m (λ j. f (k + j))) (f (k + m))
@@ -111,3 +116,9 @@ module _ (f : ℕ → Bool) where
       behind : (a b : Bool) → b ≡ true → (a || b) ≡ true
       behind true b q = refl
       behind false b q = q
+
+-- two tests that say the same of each number below n
+pub some-alike : (f g : ℕ → Bool) (n : ℕ) → ((k : ℕ) → k < n → f k ≡ g k) → some n f ≡ some n g
+unfolding some
+some-alike f g zero h = refl
+some-alike f g (suc n) h = λ i. some-alike f g n (λ k l. h k (omega arith)) i || h n (omega arith) i

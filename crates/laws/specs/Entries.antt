@@ -2,6 +2,7 @@
 use Prim.Native.Nat.{ℕ, zero, suc}
 use mathlib.Core.Bool.{Bool, true, false, _&&_, _||_}
 use mathlib.Core.List.{List, [], _∷_, _++_}
+use Rattle.laws.specs.Choice.{pick}
 
 -- the test passes at each entry, the first of which has index i
 abbrev pub every : {X : Type 0} → (ℕ → X → Bool) → ℕ → List X → Bool
@@ -26,6 +27,11 @@ tabulate n f = pieces n (λ k. f k ∷ [])
 unfoldable pub some : ℕ → (ℕ → Bool) → Bool
 some zero f = false
 some (suc n) f = some n f || f n
+
+-- how many numbers below n pass the test
+unfoldable pub howMany : ℕ → (ℕ → Bool) → ℕ
+howMany zero f = 0
+howMany (suc n) f = pick (f n) (suc (howMany n f)) (howMany n f)
 
 -- the bytes of each entry, one behind the other
 unfoldable pub inTurn : {X : Type 0} → (X → List ℕ) → List X → List ℕ

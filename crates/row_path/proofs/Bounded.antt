@@ -1,11 +1,10 @@
 -- What enter and leave keep, whatever numbers the tables hold. Assumes nothing.
 use Prim.Native.Nat.{ℕ, _+_, _^_, _≤_, _<_}
-use mathlib.Core.Path.{_≡_, refl, ap, _∙_, subst}
-use mathlib.Core.Bool.{Bool, true, false}
+use mathlib.Core.Path.{_≡_, refl, ap, _∙_}
+use mathlib.Core.Bool.{false}
 use mathlib.Core.List.{List}
 use native.Mathlib.Omega.{arith}
-use lib.Dec.{T}
-use Rattle.laws.proofs.Picks.{choice}
+use Rattle.laws.proofs.Picks.{choice, not-both}
 use Rattle.tune.specs.Sizes.{patternCount}
 use Rattle.row_path.specs.Orders.{skipped, patternAt}
 use Rattle.row_path.specs.Enter.{endedAt, arrived, acted, visited, enteredAt, entered}
@@ -49,10 +48,7 @@ visited-pattern cells p pattern = choice (λ (e : Entered). e .pattern ≡ patte
 
 at-named : (cells : List ℕ) (p : Path) (order n : ℕ) (named : ByteOption) → ((v : ℕ) → named ≡ Some v → v < n) → enteredAt cells p order named .path .ended ≡ false → enteredAt cells p order named .pattern < n
 unfolding enteredAt endedAt
-at-named cells p order n None h e = absurd (no-true e)
-  where
-    no-true : true ≡ false → ⊥
-    no-true q = subst (λ (b : Bool). T b) q tt
+at-named cells p order n None h e = absurd (not-both e)
 at-named cells p order n (Some v) h e = omega (arith, visited-pattern cells (arrived p order) v, h v refl)
 
 -- a row that is entered is one of a pattern that is there

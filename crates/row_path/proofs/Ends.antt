@@ -34,6 +34,16 @@ pub skipped-most : (orders : List ℕ) (at : ℕ) → length orders ≤ 255 → 
 unfolding skipped
 skipped-most orders at l h = omega (arith, skip-most (drop at orders) at, length-drop at orders)
 
+skip-least : (xs : List ℕ) (at : ℕ) → at ≤ skipFrom xs at
+unfolding skipFrom
+skip-least [] at = omega arith
+skip-least (x ∷ xs) at = choice (λ (n : ℕ). at ≤ n) (eqb x 0xFE) (λ _. omega (arith, skip-least xs (suc at))) (λ _. omega arith)
+
+-- and not before where it starts
+pub skipped-least : (orders : List ℕ) (at : ℕ) → at ≤ skipped orders at
+unfolding skipped
+skipped-least orders at = skip-least (drop at orders) at
+
 ended-at : (cells : List ℕ) (p : Path) (order : ℕ) (named : ByteOption) → p .ended ≡ true → enteredAt cells p order named .path .ended ≡ true
 unfolding enteredAt endedAt arrived visited acted settled
 ended-at cells p order None h = refl

@@ -49,7 +49,8 @@ row-byte s v r k j hk hj =
     let e : rowPlace v r + (k * 5 + j) ≡ (v * 2048 + r * 32 + k) * 5 + j = omega arith in
     getD-take 160 (drop (rowPlace v r) s) (k * 5 + j) 0 l ∙ getD-drop (rowPlace v r) s (k * 5 + j) 0 ∙ ap (λ (n : ℕ). getD s n 0) e
 
-row-alike : (s t : List ℕ) (v r k : ℕ) → k < 32 → SteerAlike s t (v * 2048 + r * 32 + k) → SteerAlike (rowCells s v r) (rowCells t v r) k
+-- the rows of tables that are alike wherever either steers are so too
+pub row-alike : (s t : List ℕ) (v r k : ℕ) → k < 32 → SteerAlike s t (v * 2048 + r * 32 + k) → SteerAlike (rowCells s v r) (rowCells t v r) k
 row-alike s t v r k h a =
     rw (row-byte s v r k 3 h (omega arith), row-byte t v r k 3 h (omega arith), row-byte s v r k 4 h (omega arith), row-byte t v r k 4 h (omega arith)) a
 
