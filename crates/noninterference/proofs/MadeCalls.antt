@@ -13,8 +13,9 @@ use Rattle.section.specs.Records.{recordSize}
 use Rattle.section.specs.Walk.{walk}
 use Rattle.section.specs.Section.{Answer, Refused, Gave, sectionRule, gave, answerBy, sectionOf, sectioned, joined, outputAfter}
 use Rattle.section.proofs.Sizes.{walk-channels, records-length}
+use Rattle.section.specs.Made.{Made, answerTo, Promised}
 use Rattle.noninterference.specs.Calls.{stateOf, answersOf}
-use Rattle.noninterference.specs.Made.{Made, callOf, answerTo, Promised, cut, readBack}
+use Rattle.noninterference.specs.Made.{callOf, cut, readBack}
 
 -- records of 536 bytes, joined, are cut where they were joined
 cut-joined : (rs : List (List ℕ)) (rest : List ℕ) → ((k : ℕ) → k < length rs → length (getD rs k []) ≡ recordSize) → cut (length rs) (joined rs ++ rest) ≡ rs

@@ -13,13 +13,14 @@ use Rattle.section.specs.declared.state.Opened.{Opened}
 use Rattle.section.specs.Tables.{Tune}
 use Rattle.section.specs.Open.{openRule, openOf}
 use Rattle.section.specs.Section.{Answer}
+use Rattle.section.specs.Made.{Made, Promised}
 use Rattle.section.specs.Typed.{ByteTables, ShapedOpening}
 use Rattle.section.proofs.Accepted.{open-accepted}
 use Rattle.noninterference.specs.Revoiced.{Lent}
 use Rattle.noninterference.specs.Calls.{Call, answersOf, sizesGiven}
 use Rattle.noninterference.specs.Machines.{opened}
 use Rattle.noninterference.specs.Kept.{Same, Faithful, ChannelsKept, ChannelKept}
-use Rattle.noninterference.specs.Made.{Made, callOf, Promised, MadeOn, readBack, MadeFaithful, HoweverRevoiced}
+use Rattle.noninterference.specs.Made.{callOf, MadeOn, readBack, MadeFaithful, HoweverRevoiced}
 use Rattle.noninterference.proofs.Dealt.{shares, shares-faithful, few-granted, answers-shares}
 use Rattle.noninterference.proofs.Views.{opened-channels, shares-same}
 use Rattle.noninterference.proofs.MadeCalls.{made-answers, made-given, made-written}

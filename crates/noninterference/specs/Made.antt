@@ -6,37 +6,19 @@ use mathlib.Core.List.{List, [], _∷_, map}
 use lib.Dec.{eqb}
 use lib.ListN.{length, take, drop}
 use Rattle.laws.specs.Choice.{pick}
-use Rattle.section.specs.declared.state.State.{State}
 use Rattle.section.specs.declared.state.Opened.{Opened}
-use Rattle.section.specs.declared.state.Sectioned.{Sectioned}
-use Rattle.section.specs.Tables.{Tables, Tune}
+use Rattle.section.specs.Tables.{Tune}
 use Rattle.section.specs.Open.{openOf}
 use Rattle.section.specs.Records.{recordSize}
-use Rattle.section.specs.Section.{Answer, Refused, Gave, sectionOf, sectioned, outputAfter}
+use Rattle.section.specs.Section.{Answer, Refused, Gave, sectioned, outputAfter}
+use Rattle.section.specs.Made.{Made, Promised}
 use Rattle.section.specs.Typed.{ByteTables, ShapedOpening}
 use Rattle.noninterference.specs.Revoiced.{Revoiced}
 use Rattle.noninterference.specs.Calls.{Call, sizesGiven}
 use Rattle.noninterference.specs.Kept.{Same, Faithful}
 
--- a call of Section that was made: its size n, its output before and after it, and what it gave back (01, 'Section')
-pub record Made : Type 0 where
-  pub size : ℕ
-  pub before : List ℕ
-  pub after : List ℕ
-  pub answer : Sectioned
-
 abbrev pub callOf : Made → Call
 callOf m = record { size = m .size; room = length (m .before) }
-
--- what Section answers to it on a state (01, 'Section')
-abbrev pub answerTo : Tables → State → Made → Answer
-answerTo t s m = sectionOf t s (m .size) (length (m .before))
-
--- each keeps what `section` promises (`answer`, `written`), on the state that the last one gave back (demand 3)
-unfoldable pub Promised : Tables → State → List Made → Type 0
-Promised t s [] = Unit
-Promised t s (m ∷ ms) =
-    (m .answer ≡ sectioned (answerTo t s m)) × (m .after ≡ outputAfter (m .before) (answerTo t s m)) × Promised t (m .answer .state) ms
 
 -- o is what `open` promises of a tune (`answer`, `typed`) and refuses nothing; the calls are made from its state (01, 'Open')
 pub record MadeOn (u : Tune) (o : Opened) (ms : List Made) : Type 0 where

@@ -5,4 +5,5 @@ pub mod Records
 pub mod Machines
 pub mod Walk
 pub mod Section
+pub mod Made
 pub mod Ordinary

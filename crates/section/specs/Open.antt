@@ -25,6 +25,9 @@ freshState o =
 unfoldable pub openRule : Tables → Opening → ℕ
 openRule t o = orElse (tablesRule t) (rule10 o)
 
--- the fresh state, or beside a refusal that of the blank opening values
+-- by a rule's number: the fresh state, or beside a refusal that of the blank opening values
+abbrev pub openedBy : ℕ → Opening → Opened
+openedBy rule o = record { refusal = rule; state = freshState (pick (eqb rule 0) o blankOpening) }
+
 unfoldable pub openOf : Tables → Opening → Opened
-openOf t o = record { refusal = openRule t o; state = freshState (pick (eqb (openRule t o) 0) o blankOpening) }
+openOf t o = openedBy (openRule t o) o

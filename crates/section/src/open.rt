@@ -4,7 +4,7 @@ ghost use mathlib.Core.List.{map};
 ghost use Rattle.channel.specs.Opening.{openedChannel};
 ghost use Rattle.section.specs.Tables.{lent};
 ghost use Rattle.section.specs.Typed.{ByteTables, ShapedOpening};
-ghost use Rattle.section.specs.Open.{freshState, openOf};
+ghost use Rattle.section.specs.Open.{freshState, openRule, openedBy, openOf};
 use crate::state::Opened;
 use crate::state::State;
 use channel::state::Channel;
@@ -48,12 +48,18 @@ fn fresh_state(o: Opening) -> State
     }
 }
 
-// Open: the fresh state of a tune, or 9 or 10 and the blank state. `typed` has what the theorems on a tune presuppose.
-pub fn open(orders: &[u8], cells: &[u8], samples: &[u8], o: Opening) -> Opened
-    ensures answer { λ r. ⌜ r ≡ openOf (lent (now (orders .entry)) (now (cells .entry)) (now (samples .entry))) o ⌝ }
+// The first of rules 9 and 10 that is broken, else 0. `typed` has what the theorems on a tune presuppose.
+pub fn open_rule(orders: &[u8], cells: &[u8], samples: &[u8], o: Opening) -> u8
+    ensures answer { λ r. ⌜ r ≡ openRule (lent (now (orders .entry)) (now (cells .entry)) (now (samples .entry))) o ⌝ }
     ensures typed { λ _. ⌜ ByteTables (lent (now (orders .entry)) (now (cells .entry)) (now (samples .entry))) × ShapedOpening o ⌝ }
 {
-    let rule = first_of(sizes_rule(orders, cells, samples), opening_rule(o));
+    first_of(sizes_rule(orders, cells, samples), opening_rule(o))
+}
+
+// 0 and the fresh state, or a rule's number and the blank state.
+pub fn opened_by(rule: u8, o: Opening) -> Opened
+    ensures { λ r. ⌜ r ≡ openedBy rule o ⌝ }
+{
     if rule == 0 {
         return Opened {
             refusal: rule,
@@ -64,4 +70,12 @@ pub fn open(orders: &[u8], cells: &[u8], samples: &[u8], o: Opening) -> Opened
         refusal: rule,
         state: fresh_state(blank_opening()),
     }
+}
+
+// Open: the fresh state of a tune, or 9 or 10 and the blank state.
+pub fn open(orders: &[u8], cells: &[u8], samples: &[u8], o: Opening) -> Opened
+    ensures answer { λ r. ⌜ r ≡ openOf (lent (now (orders .entry)) (now (cells .entry)) (now (samples .entry))) o ⌝ }
+    ensures typed { λ _. ⌜ ByteTables (lent (now (orders .entry)) (now (cells .entry)) (now (samples .entry))) × ShapedOpening o ⌝ }
+{
+    opened_by(open_rule(orders, cells, samples, o), o)
 }

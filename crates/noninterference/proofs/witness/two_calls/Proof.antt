@@ -5,7 +5,8 @@ use borrow.Author.Needs.{needs}
 use Rattle.section.specs.declared.state.Opened.{Opened}
 use Rattle.section.specs.Tables.{Tune}
 use Rattle.section.specs.Section.{sectioned}
-use Rattle.noninterference.specs.Made.{Made, Promised, MadeOn, HoweverRevoiced}
+use Rattle.section.specs.Made.{Made, Promised}
+use Rattle.noninterference.specs.Made.{MadeOn, HoweverRevoiced}
 use Rattle.noninterference.proofs.Theorem.{made-kept}
 use Rattle.noninterference.proofs.witness.two_calls.Statement.{statement}
 use Rattle.noninterference.proofs.witness.two_calls.Tie as tie
