@@ -1,0 +1,10 @@
+pub mod Facts
+pub mod Scans
+pub mod Turns
+pub mod Bound
+pub mod Calls
+pub mod Ends
+pub mod Worked
+pub mod Rounds
+pub mod Answered
+pub mod Alike

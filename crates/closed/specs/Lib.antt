@@ -1,0 +1,4 @@
+pub mod Closed
+pub mod Answers
+pub mod Ends
+pub mod Working
