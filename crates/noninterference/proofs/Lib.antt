@@ -6,3 +6,4 @@ pub mod Views
 pub mod MadeCalls
 pub mod Theorem
 pub mod Example
+pub mod ClosedTunes

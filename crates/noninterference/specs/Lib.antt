@@ -3,3 +3,4 @@ pub mod Calls
 pub mod Machines
 pub mod Kept
 pub mod Made
+pub mod ClosedTunes
