@@ -1,6 +1,6 @@
 -- The calls' answers and bytes, from what the functions below them give. Assumes nothing.
 use Prim.Native.Nat.{ℕ, zero, suc, _^_, _<_}
-use mathlib.Core.Path.{_≡_, refl, sym, ap, _∙_}
+use mathlib.Core.Path.{_≡_, refl, sym, ap, _∙_, subst⁻¹}
 use mathlib.Core.Bool.{Bool, true, false}
 use mathlib.Core.List.{List, [], _∷_}
 use native.Mathlib.Nat.{zero-add}
@@ -22,7 +22,7 @@ use Rattle.s3m.specs.declared.header.Measured.{Measured}
 use Rattle.s3m.specs.declared.header.Measured.the-variants.{Found, Refused}
 use Rattle.s3m.specs.declared.Reading.{Reading}
 use Rattle.section.specs.Tables.{Tables}
-use Rattle.section.specs.Open.{openRule, openOf, freshState}
+use Rattle.section.specs.Open.{openedBy, freshState}
 use Rattle.section.specs.Walk.{walk}
 use Rattle.section.specs.Section.{sectionRule, gave, answerBy, sectionOf, sectioned, outputAfter}
 use Rattle.section.specs.declared.state.State.{State}
@@ -30,17 +30,20 @@ use Rattle.section.specs.declared.state.Opened.{Opened}
 use Rattle.section.specs.declared.state.Sectioned.{Sectioned}
 use Rattle.s3m.specs.declared.ReadAnswer.the-variants as Read
 use Rattle.section.specs.Section as section
-use Rattle.lomqashe.specs.Openings.{openingBytes, openingAt}
-use Rattle.lomqashe.specs.States.{stateBytes, stateOf}
+use Rattle.closed.specs.Answers.{openClosedRule}
+use Rattle.closed.specs.Ends.{mostRows, EndsWithin}
+use Rattle.closed.proofs.Answered.{fresh-ends}
+use Rattle.lomqashe.specs.Openings.{openingSize, openingBytes, openingAt}
+use Rattle.lomqashe.specs.States.{stateSize, stateBytes, stateOf}
 use Rattle.lomqashe.specs.Typed.{TypedOpening}
-use Rattle.lomqashe.specs.Answers.{answerOf, wrong, countBytes, measureRefusal, countsAfter, readRefusal, openingBy, openingAfter, openRefusal, stateOpened, sectionBy, rowsAndEnded, sectionAnswer, stateAfter, recordsAfter}
+use Rattle.lomqashe.specs.Answers.{answerOf, wrong, countBytes, measureRefusal, countsAfter, readRefusal, openingBy, openingAfter, openedRefusal, openClosedRefusal, stateOpened, sectionBy, rowsAndEnded, sectionAnswer, stateAfter, recordsAfter}
 use Rattle.lomqashe.proofs.OpeningKept.{opening-kept}
 
 module _ {A : Type 0} (n m : ℕ) (x y : A) where
-  same-length : n ≡ m → pick (eqb n m) x y ≡ x
+  pub same-length : n ≡ m → pick (eqb n m) x y ≡ x
   same-length h = ap (λ (b : Bool). pick b x y) (eq-eqb n m h)
 
-  other-length : (n ≡ m → ⊥) → pick (eqb n m) x y ≡ y
+  pub other-length : (n ≡ m → ⊥) → pick (eqb n m) x y ≡ y
   other-length h = ap (λ (b : Bool). pick b x y) (ne-eqb n m h)
 
 -- Measure
@@ -123,55 +126,83 @@ opening-said file rate rule opening h w z =
     let bytes : openingAfter file rate rule opening ≡ openingBytes (openingOf file rate) = rw z in
     ap openingAt (w ∙ bytes) ∙ opening-kept (openingOf file rate) (opening-typed file rate h)
 
--- Open
-module _ (t : Tables) (opening state : List ℕ) where
-  pub open-wrong : openRefusal t opening state ≡ wrong → (answerOf wrong 0 ≡ answerOf (openRefusal t opening state) 0) × (state ≡ stateOpened opening (openRefusal t opening state) state)
-  unfolding stateOpened
-  open-wrong e = (ap (λ (r : ℕ). answerOf r 0) (sym e), ap (λ (r : ℕ). pick (eqb r 0) (stateBytes (freshState (openingAt opening))) state) (sym e))
+-- Open and Open for closed tunes: f is the rule that they go by
+module _ (f : Opening → ℕ) (opening state : List ℕ) where
+  abbrev refusal : ℕ
+  refusal = openedRefusal (f (openingAt opening)) opening state
 
-  pub wrong-unfresh : (b : List ℕ) → openRefusal t opening state ≡ wrong → openRefusal t opening state ≡ 0 → stateOf b ≡ freshState (openingAt opening)
-  wrong-unfresh b e z = absurd (omega (arith, e, z))
-
-  pub no-opening : (length opening ≡ 144 → ⊥) → openRefusal t opening state ≡ wrong
-  unfolding openRefusal
+  no-opening : (length opening ≡ 144 → ⊥) → refusal ≡ wrong
   no-opening h = other-length (length opening) 144 _ wrong h
 
-  pub no-state : length opening ≡ 144 → (length state ≡ 2624 → ⊥) → openRefusal t opening state ≡ wrong
-  unfolding openRefusal
-  no-state h k = same-length (length opening) 144 _ wrong h ∙ other-length (length state) 2624 (openRule t (openingAt opening)) wrong k
+  no-state : length opening ≡ 144 → (length state ≡ 2624 → ⊥) → refusal ≡ wrong
+  no-state h k = same-length (length opening) 144 _ wrong h ∙ other-length (length state) 2624 (f (openingAt opening)) wrong k
 
-  by-rules : length opening ≡ 144 → length state ≡ 2624 → openRefusal t opening state ≡ openRule t (openingAt opening)
-  unfolding openRefusal
-  by-rules h k = same-length (length opening) 144 _ wrong h ∙ same-length (length state) 2624 (openRule t (openingAt opening)) wrong k
+  by-rules : length opening ≡ 144 → length state ≡ 2624 → refusal ≡ f (openingAt opening)
+  by-rules h k = same-length (length opening) 144 _ wrong h ∙ same-length (length state) 2624 (f (openingAt opening)) wrong k
 
-  module _ (h : length opening ≡ 144) (k : length state ≡ 2624) (o : Opening) (g : Opened) (eo : o ≡ openingAt opening) (eg : g ≡ openOf t o) where
-    refusal-is : g .refusal ≡ openRefusal t opening state
-    unfolding openOf
-    refusal-is = ap (λ (g : Opened). g .refusal) eg ∙ ap (openRule t) eo ∙ sym (by-rules h k)
+  -- what these calls answer and leave: r and b
+  pub record OpenedBytes (r : ℕ) (b : List ℕ) : Type 0 where
+    pub answer : r ≡ answerOf refusal 0
+    pub written : b ≡ stateOpened opening refusal state
+    pub kept : refusal ≡ 0 → stateOf b ≡ freshState (openingAt opening)
 
-    pub open-refused : (g .refusal ≡ 0 → ⊥) → (answerOf (g .refusal) 0 ≡ answerOf (openRefusal t opening state) 0) × (state ≡ stateOpened opening (openRefusal t opening state) state)
-    unfolding stateOpened
-    open-refused n =
-        (ap (λ (r : ℕ). answerOf r 0) refusal-is, sym (other-length (openRefusal t opening state) 0 (stateBytes (freshState (openingAt opening))) state (λ z. n (refusal-is ∙ z))))
+  wrong-bytes : refusal ≡ wrong → OpenedBytes (answerOf wrong 0) state
+  unfolding stateOpened
+  wrong-bytes e =
+      record {
+        answer = ap (λ (r : ℕ). answerOf r 0) (sym e);
+        written = ap (λ (r : ℕ). pick (eqb r 0) (stateBytes (freshState (openingAt opening))) state) (sym e);
+        kept = λ z. absurd (omega (arith, e, z));
+      }
+
+  pub opening-wrong : (length opening ≡ 144 → ⊥) → OpenedBytes (answerOf wrong 0) state
+  opening-wrong h = wrong-bytes (no-opening h)
+
+  pub state-wrong : length opening ≡ 144 → (length state ≡ 2624 → ⊥) → OpenedBytes (answerOf wrong 0) state
+  state-wrong h k = wrong-bytes (no-state h k)
+
+  module _ (h : length opening ≡ 144) (k : length state ≡ 2624) (o : Opening) (g : Opened) (eo : o ≡ openingAt opening) (eg : g ≡ openedBy (f o) o) where
+    by-bytes-opened : g ≡ openedBy refusal (openingAt opening)
+    by-bytes-opened = eg ∙ ap (λ (o : Opening). openedBy (f o) o) eo ∙ ap (λ (r : ℕ). openedBy r (openingAt opening)) (sym (by-rules h k))
+
+    refusal-is : g .refusal ≡ refusal
+    refusal-is = ap (λ (g : Opened). g .refusal) by-bytes-opened
+
+    -- the bytes by an answer are those by its rule
+    bytes-by : (rule : ℕ) (o : Opening) → pick (eqb rule 0) (stateBytes (openedBy rule o .state)) state ≡ pick (eqb rule 0) (stateBytes (freshState o)) state
+    bytes-by rule o = by (eqb rule 0)
+      where
+        by : (b : Bool) → pick b (stateBytes (freshState (pick b o blankOpening))) state ≡ pick b (stateBytes (freshState o)) state
+        by true = refl
+        by false = refl
 
     fresh : g .refusal ≡ 0 → g .state ≡ freshState (openingAt opening)
-    unfolding openOf
-    fresh z =
-        ap (λ (g : Opened). g .state) eg
-        ∙ ap freshState (same-length (openRule t o) 0 o blankOpening (sym (ap (λ (g : Opened). g .refusal) eg) ∙ z))
-        ∙ ap freshState eo
+    fresh z = ap (λ (g : Opened). g .state) by-bytes-opened ∙ ap freshState (same-length refusal 0 (openingAt opening) blankOpening (sym refusal-is ∙ z))
 
-    pub open-given : g .refusal ≡ 0 → (0 ≡ answerOf (openRefusal t opening state) 0) × (stateBytes (g .state) ≡ stateOpened opening (openRefusal t opening state) state)
+    pub opened-bytes : {r : ℕ} {b : List ℕ} → r ≡ answerOf (g .refusal) 0 → b ≡ pick (eqb (g .refusal) 0) (stateBytes (g .state)) state
+        → (g .refusal ≡ 0 → stateOf b ≡ g .state) → OpenedBytes r b
     unfolding stateOpened
-    open-given z =
-        (ap (λ (r : ℕ). answerOf r 0) (sym z ∙ refusal-is), ap stateBytes (fresh z) ∙ sym (same-length (openRefusal t opening state) 0 (stateBytes (freshState (openingAt opening))) state (sym refusal-is ∙ z)))
+    opened-bytes er eb ek =
+        record {
+          answer = er ∙ ap (λ (r : ℕ). answerOf r 0) refusal-is;
+          written = eb ∙ ap (λ (g : Opened). pick (eqb (g .refusal) 0) (stateBytes (g .state)) state) by-bytes-opened ∙ bytes-by refusal (openingAt opening);
+          kept = λ z. ek (refusal-is ∙ z) ∙ fresh (refusal-is ∙ z);
+        }
 
-    pub refused-unfresh : (b : List ℕ) → (g .refusal ≡ 0 → ⊥) → openRefusal t opening state ≡ 0 → stateOf b ≡ freshState (openingAt opening)
-    refused-unfresh b n z = absurd (n (refusal-is ∙ z))
+rule-zero : (rule : ℕ) (opening state : List ℕ) → openedRefusal rule opening state ≡ 0 → rule ≡ 0
+rule-zero rule opening state = by (eqb (length opening) openingSize) (eqb (length state) stateSize)
+  where
+    by : (a b : Bool) → pick a (pick b rule wrong) wrong ≡ 0 → rule ≡ 0
+    by true true e = e
+    by true false e = absurd (omega (arith, e))
+    by false b e = absurd (omega (arith, e))
 
-    -- the bytes say the fresh state
-    pub fresh-kept : (b : List ℕ) → g .refusal ≡ 0 → b ≡ stateBytes (g .state) → stateOf (stateBytes (g .state)) ≡ g .state → stateOf b ≡ freshState (openingAt opening)
-    fresh-kept b z e k = ap stateOf e ∙ k ∙ fresh z
+-- a closed tune ends from the state that the bytes say
+pub closed-bytes-end : (t : Tables) (opening state b : List ℕ) → (openClosedRefusal t opening state ≡ 0 → stateOf b ≡ freshState (openingAt opening))
+    → openClosedRefusal t opening state ≡ 0 → EndsWithin (mostRows t) t (stateOf b)
+unfolding openClosedRefusal
+closed-bytes-end t opening state b k z =
+    subst⁻¹ (EndsWithin (mostRows t) t) (k z) (fresh-ends t (openingAt opening) (rule-zero (openClosedRule t (openingAt opening)) opening state z))
 
 -- Section
 -- a refused call gives the state that it got

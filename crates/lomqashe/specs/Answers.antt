@@ -1,5 +1,6 @@
--- What the six calls answer, and what they leave in the lent bytes. Assumes nothing.
+-- What the calls answer, and what they leave in the lent bytes. Assumes nothing.
 use Prim.Native.Nat.{ℕ, _+_, _*_, _^_}
+use mathlib.Core.Bool.{Bool}
 use mathlib.Core.List.{List, _++_}
 use mathlib.Core.Option.{Option, none, some}
 use lib.Dec.{eqb}
@@ -19,6 +20,7 @@ use Rattle.section.specs.Open.{freshState, openRule}
 use Rattle.section.specs.Section.{sectionOf, sectioned, outputAfter}
 use Rattle.section.specs.declared.state.Sectioned.{Sectioned}
 use Rattle.s3m.specs.declared.ReadAnswer.the-variants as Read
+use Rattle.closed.specs.Answers.{openClosedRule}
 use Rattle.lomqashe.specs.Openings.{openingSize, openingBytes, openingAt}
 use Rattle.lomqashe.specs.States.{stateSize, stateBytes, stateOf}
 
@@ -57,14 +59,27 @@ openingBy (Read.Refused x) o opening = opening
 unfoldable pub openingAfter : List ℕ → ℕ → ℕ → List ℕ → List ℕ
 openingAfter file rate refusal opening = pick (eqb refusal 0) (openingBytes (openingOf file rate)) opening
 
--- Open
-unfoldable pub openRefusal : Tables → List ℕ → List ℕ → ℕ
-openRefusal t opening state =
-    pick (eqb (length opening) openingSize) (pick (eqb (length state) stateSize) (openRule t (openingAt opening)) wrong) wrong
+-- Open and Open for closed tunes, by the rule that they go by
+abbrev pub openedRefusal : ℕ → List ℕ → List ℕ → ℕ
+openedRefusal rule opening state = pick (eqb (length opening) openingSize) (pick (eqb (length state) stateSize) rule wrong) wrong
 
--- the lent state behind it
+unfoldable pub openRefusal : Tables → List ℕ → List ℕ → ℕ
+openRefusal t opening state = openedRefusal (openRule t (openingAt opening)) opening state
+
+unfoldable pub openClosedRefusal : Tables → List ℕ → List ℕ → ℕ
+openClosedRefusal t opening state = openedRefusal (openClosedRule t (openingAt opening)) opening state
+
+-- the lent state behind them
 unfoldable pub stateOpened : List ℕ → ℕ → List ℕ → List ℕ
 stateOpened opening refusal state = pick (eqb refusal 0) (stateBytes (freshState (openingAt opening))) state
+
+-- whether a tune is closed in one number: 1 yes, 0 no
+abbrev flagGiven : Option Bool → ℕ
+flagGiven none = 0
+flagGiven (some b) = flag b
+
+abbrev pub closedInOne : Said Bool → ℕ
+closedInOne s = answerOf (s .number) (flagGiven (s .values))
 
 -- Section of the state that the bytes say
 unfoldable pub sectionBy : Tables → List ℕ → ℕ → List ℕ → Sectioned

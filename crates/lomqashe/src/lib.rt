@@ -1,5 +1,5 @@
-// The six calls for a program in C or Rust, over numbers and bytes alone: no caller has anything to show. Each answers a
-// number: bits 24 to 31 say why the call refuses (0 it does not, 1 to 13 the rule, 255 a length at this border is wrong,
+// The calls for a program in C or Rust, over numbers and bytes alone: no caller has anything to show. Each answers a
+// number: bits 24 to 31 say why the call refuses (0 it does not, 1 to 14 the rule, 255 a length at this border is wrong,
 // and then nothing is written), bits 0 to 23 what it gives.
 pub mod channels;
 pub mod floats;
@@ -9,17 +9,24 @@ pub mod state;
 
 ghost use mathlib.Core.Path.{_≡_};
 ghost use Prim.Native.Nat.{_+_, _*_, _<_};
+ghost use lib.Dec.{eqb};
 ghost use lib.ListN.{length};
+ghost use Rattle.laws.specs.Choice.{pick};
 ghost use Rattle.s3m.specs.Opening.{openingOf};
 ghost use Rattle.s3m.specs.Answers.{readSays, ordersAfter, samplesAfter, cellsAfter};
 ghost use Rattle.section.specs.Tables.{lent};
 ghost use Rattle.tune.specs.Numbers.{flag};
 ghost use Rattle.section.specs.Open.{freshState};
+ghost use Rattle.closed.specs.Answers.{isClosedSays};
+ghost use Rattle.closed.specs.Ends.{mostRows, EndsWithin};
 ghost use Rattle.sheet.specs.Strikes.{strikesSay, strikesOutput};
 ghost use Rattle.sheet.specs.Lines.{lineSays, lineOutput};
 ghost use Rattle.lomqashe.specs.Openings.{openingAt};
-ghost use Rattle.lomqashe.specs.States.{stateOf};
-ghost use Rattle.lomqashe.specs.Answers.{answerOf, countBytes, measureRefusal, countsAfter, readRefusal, openingBy, openingAfter, openRefusal, stateOpened, sectionBy, sectionAnswer, stateAfter, recordsAfter, inOne};
+ghost use Rattle.lomqashe.specs.States.{stateBytes, stateOf};
+ghost use Rattle.lomqashe.specs.Answers.{answerOf, countBytes, measureRefusal, countsAfter, readRefusal, openingBy, openingAfter, openRefusal, openClosedRefusal, stateOpened, closedInOne, sectionBy, sectionAnswer, stateAfter, recordsAfter, inOne};
+use closed::answer::ClosedAnswer;
+use closed::answer::is_closed;
+use closed::answer::open_closed;
 use opening::opening_of;
 use opening::put_opening;
 use s3m::ReadAnswer;
@@ -28,6 +35,7 @@ use s3m::header::Measured;
 use s3m::header::measure;
 use s3m::read;
 use section::open::open;
+use section::state::Opened;
 use section::walk::section;
 use sheet::answer::Answer;
 use sheet::line::line;
@@ -142,6 +150,21 @@ pub extern "C" fn lomqashe_read(
     answer_read(answer, opening, o)
 }
 
+// The answer of Open in one number, and its state in 2,624 bytes where it does not refuse.
+fn answer_opened(opened: Opened, state: &mut [u8]) -> u32
+    requires { ⌜ length (now state) ≡ 2624 ⌝ }
+    ensures answer { λ r. ⌜ r ≡ answerOf (opened .refusal) 0 ⌝ }
+    ensures written { λ _. ⌜ now (state .exit) ≡ pick (eqb (opened .refusal) 0) (stateBytes (opened .state)) (now (state .entry)) ⌝ }
+    ensures kept { λ _. ⌜ (opened .refusal ≡ 0 → stateOf (now (state .exit)) ≡ opened .state) ⌝ }
+{
+    if opened.refusal != 0 {
+        return refused(opened.refusal);
+    }
+    let s = opened.state;
+    put_state(state, s);
+    0
+}
+
 // Open: the fresh state in 2,624 bytes.
 #[no_mangle]
 pub extern "C" fn lomqashe_open(
@@ -161,13 +184,46 @@ pub extern "C" fn lomqashe_open(
     if state.len() != 2624 {
         return WRONG;
     }
-    let opened = open(orders, cells, samples, opening_of(opening));
-    if opened.refusal != 0 {
-        return refused(opened.refusal);
+    answer_opened(open(orders, cells, samples, opening_of(opening)), state)
+}
+
+// Whether a tune is closed: gives 1 where it is, 0 where it is not.
+#[no_mangle]
+pub extern "C" fn lomqashe_is_closed(orders: &[u8], cells: &[u8], samples: &[u8]) -> u32
+    ensures { λ r. ⌜ r ≡ closedInOne (isClosedSays (lent (now (orders .entry)) (now (cells .entry)) (now (samples .entry)))) ⌝ }
+{
+    match is_closed(orders, cells, samples) {
+        ClosedAnswer::Yes => 1,
+        ClosedAnswer::No => 0,
+        ClosedAnswer::Refused(rule) => refused(rule),
     }
-    let s = opened.state;
-    put_state(state, s);
-    0
+}
+
+// Open for closed tunes alone. The state that it writes is one from which the tune ends.
+#[no_mangle]
+pub extern "C" fn lomqashe_open_closed(
+    orders: &[u8],
+    cells: &[u8],
+    samples: &[u8],
+    opening: &[u8],
+    state: &mut [u8],
+) -> u32
+    ensures answer { λ r. ⌜ r ≡ answerOf (openClosedRefusal (lent (now (orders .entry)) (now (cells .entry)) (now (samples .entry))) (now (opening .entry)) (now (state .entry))) 0 ⌝ }
+    ensures written { λ _. ⌜ now (state .exit) ≡ stateOpened (now (opening .entry)) (openClosedRefusal (lent (now (orders .entry)) (now (cells .entry)) (now (samples .entry))) (now (opening .entry)) (now (state .entry))) (now (state .entry)) ⌝ }
+    ensures kept { λ _. ⌜ (openClosedRefusal (lent (now (orders .entry)) (now (cells .entry)) (now (samples .entry))) (now (opening .entry)) (now (state .entry)) ≡ 0 → stateOf (now (state .exit)) ≡ freshState (openingAt (now (opening .entry)))) ⌝ }
+    ensures ends { λ _. ⌜ (openClosedRefusal (lent (now (orders .entry)) (now (cells .entry)) (now (samples .entry))) (now (opening .entry)) (now (state .entry)) ≡ 0
+        → let t = lent (now (orders .entry)) (now (cells .entry)) (now (samples .entry)) in EndsWithin (mostRows t) t (stateOf (now (state .exit)))) ⌝ }
+{
+    if opening.len() != 144 {
+        return WRONG;
+    }
+    if state.len() != 2624 {
+        return WRONG;
+    }
+    answer_opened(
+        open_closed(orders, cells, samples, opening_of(opening)),
+        state,
+    )
 }
 
 // What Section gives: the rows in bits 0 to 15, whether the tune has ended in bit 16.
