@@ -1,8 +1,10 @@
 // The functions by their numbers in the list: an arm with the call and an arm with the name for each.
 use libc::STDOUT_FILENO;
+use lomqashe::lomqashe_is_closed;
 use lomqashe::lomqashe_line;
 use lomqashe::lomqashe_measure;
 use lomqashe::lomqashe_open;
+use lomqashe::lomqashe_open_closed;
 use lomqashe::lomqashe_read;
 use lomqashe::lomqashe_section;
 use lomqashe::lomqashe_strikes;
@@ -27,6 +29,8 @@ pub fn call(
         4 => lomqashe_section(s0, s1, s2, s3, number, s4),
         5 => lomqashe_strikes(s0, s1),
         6 => lomqashe_line(s0, s1),
+        7 => lomqashe_is_closed(s0, s1, s2),
+        8 => lomqashe_open_closed(s0, s1, s2, s3, s4),
         _ => UNKNOWN,
     }
 }
@@ -44,6 +48,8 @@ pub fn print_name(function: usize) -> bool {
         4 => print(b"section"),
         5 => print(b"strikes"),
         6 => print(b"line"),
+        7 => print(b"is_closed"),
+        8 => print(b"open_closed"),
         _ => false,
     }
 }
