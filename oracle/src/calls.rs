@@ -1,6 +1,8 @@
-//! Calls of the border's six functions, bytes in and bytes out, and the judge of what they answer: the original for
-//! Open and Section, 01's reader for Measure and Read, 02's words for Strikes, and 01's for Line and for every refusal.
+//! Calls of the border's eight functions, bytes in and bytes out, and the judge of what they answer: the original for
+//! Open and Section, 01's reader for Measure and Read, 02's words for Strikes and closed tunes, and 01's for Line and for
+//! every other refusal.
 
+use crate::closed;
 use crate::player::bridge::{Original, open};
 use crate::reader::{self, Lent};
 use crate::rules::{self, COUNTS_BYTES};
@@ -20,15 +22,26 @@ pub enum Function {
     Section,
     Strikes,
     Line,
+    IsClosed,
+    OpenClosed,
 }
 
 use Function::*;
 
 impl Function {
-    pub const ALL: [Function; 6] = [Measure, Read, Open, Section, Strikes, Line];
+    pub const ALL: [Function; 8] = [Measure, Read, Open, Section, Strikes, Line, IsClosed, OpenClosed];
 
     pub fn name(self) -> &'static str {
-        ["measure", "read", "open", "section", "strikes", "line"][self as usize]
+        match self {
+            Measure => "measure",
+            Read => "read",
+            Open => "open",
+            Section => "section",
+            Strikes => "strikes",
+            Line => "line",
+            IsClosed => "is_closed",
+            OpenClosed => "open_closed",
+        }
     }
 }
 
@@ -88,9 +101,21 @@ impl Call {
     }
 
     pub fn open(tune: &Tune) -> Call {
+        Call::opening(Open, tune)
+    }
+
+    pub fn open_closed(tune: &Tune) -> Call {
+        Call::opening(OpenClosed, tune)
+    }
+
+    fn opening(function: Function, tune: &Tune) -> Call {
         let [orders, cells, samples] = [&tune.orders, &tune.cells, &tune.samples].map(Vec::clone);
         let (opening, state) = (tune.opening.encode(), untouched(STATE_BYTES));
-        Call::new(Open, 0, [orders, cells, samples, opening, state])
+        Call::new(function, 0, [orders, cells, samples, opening, state])
+    }
+
+    pub fn is_closed(tune: &Tune) -> Call {
+        Call::new(IsClosed, 0, [&tune.orders, &tune.cells, &tune.samples].map(Vec::clone))
     }
 
     /// From the bytes of a state, into an output with so many bytes to spare.
@@ -105,7 +130,7 @@ impl Call {
         Call::new(function, 0, [record.to_vec(), untouched(output)])
     }
 
-    /// The tables that Open or Section is lent, without opening values.
+    /// The tables that a call on a tune is lent, without opening values.
     pub fn tune(&self) -> Tune {
         let [orders, cells, samples, ..] = self.slots.clone();
         Tune {
@@ -133,7 +158,7 @@ pub fn answer(call: &Call) -> Answer {
     Answer { number, slots }
 }
 
-/// What a call gives that breaks none of the rules 9 to 13.
+/// What a call gives that breaks none of the rules 9 to 14.
 fn write(call: &Call, slots: &mut Slots) -> Result<u32, u8> {
     match call.function {
         Measure => {
@@ -145,7 +170,7 @@ fn write(call: &Call, slots: &mut Slots) -> Result<u32, u8> {
             let tune = reader::read_lent(&slots[0], &call.lent(), call.number)?;
             slots[1..].clone_from_slice(&[tune.orders, tune.samples, tune.cells, tune.opening.encode()]);
         }
-        Open => {
+        Open | OpenClosed => {
             let mut tune = call.tune();
             tune.opening = Opening::decode(&slots[3]);
             slots[4] = open(&tune).encode();
@@ -163,6 +188,7 @@ fn write(call: &Call, slots: &mut Slots) -> Result<u32, u8> {
             slots[1][..line.len()].copy_from_slice(line.as_bytes());
             return Ok(line.len() as u32);
         }
+        IsClosed => return Ok(closed::is_closed(&call.tune()).into()),
     }
     Ok(0)
 }

@@ -1,6 +1,7 @@
 //! Random tunes, states, calls and files, everything from a seed.
 
 mod cells;
+pub mod closed;
 pub mod files;
 pub mod pitch;
 pub mod records;

@@ -2,6 +2,7 @@
 
 pub mod calls;
 pub mod card;
+pub mod closed;
 pub mod cover;
 pub mod generate;
 mod layout;

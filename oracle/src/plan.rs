@@ -1,6 +1,7 @@
 //! Which calls are recorded: each from a seed, and answered by the judge as it is asked. Of most kinds those are kept
 //! that show something which none before them did.
 
+mod closed;
 mod pitch;
 mod strikes;
 
@@ -32,15 +33,17 @@ const RECORDS: usize = 23;
 const SPARE: [usize; 4] = [0, 1, 7, 535];
 
 pub fn recorded() -> Vec<Case> {
-    let strikes = strikes::groups();
-    let first = strikes.len() + FIRST_FILES;
-    let groups = strikes
+    let mut chosen = strikes::groups();
+    chosen.extend(closed::groups());
+    let first = chosen.len() + FIRST_FILES;
+    let groups = chosen
         .into_iter()
         .chain(file_groups())
         .chain(pitch::groups())
         .chain((0..VISITED).flat_map(visits))
         .chain((0..WALKS).map(walked))
         .chain(refused())
+        .chain(refused_closed())
         .chain((0..PARTED).map(parted));
     let mut cases = cover::telling(groups, first);
     let sections = cases.iter().filter(|case| case.call.function == Function::Section);
@@ -123,5 +126,12 @@ fn refused() -> impl Iterator<Item = Group> {
     let mut random = Random::new(REFUSED_SEED);
     let tune = generate::tune(&mut random, Purpose::Walks, REFUSED_SEED);
     let calls = (0..REFUSED).map(move |_| refused::call(&mut random, &tune));
+    calls.map(|call| vec![Case::of(call)])
+}
+
+/// The same of what asks whether a tune is closed: rules 9, 10 and 14 and 255.
+fn refused_closed() -> impl Iterator<Item = Group> {
+    let mut random = Random::new(REFUSED_SEED);
+    let calls = (0..REFUSED).map(move |_| refused::closed_call(&mut random));
     calls.map(|call| vec![Case::of(call)])
 }

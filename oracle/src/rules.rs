@@ -1,9 +1,10 @@
-//! Rules 9 to 13 written from 01 and 02 alone, and 255 from the border: the original refuses nothing.
+//! Rules 9 to 14 written from 01 and 02 alone, and 255 from the border: the original refuses nothing.
 
 use crate::calls::{Call, Function};
 use crate::card::unit;
+use crate::closed;
 use crate::state::{STATE_BYTES, State};
-use crate::tune::{OPENING_BYTES, Opening, PATTERN_BYTES, RECORD_BYTES, SAMPLE_BYTES};
+use crate::tune::{OPENING_BYTES, Opening, PATTERN_BYTES, RECORD_BYTES, SAMPLE_BYTES, Tune};
 
 pub const MOST_START: u64 = 1 << 62;
 pub const WRONG_LENGTH: u8 = 255;
@@ -30,10 +31,9 @@ pub fn facts(call: &Call) -> Vec<Fact> {
     match call.function {
         Function::Measure => length(b, COUNTS_BYTES, "counts"),
         Function::Read => length(e, OPENING_BYTES, "opening"),
-        Function::Open => {
-            let lengths = [length(d, OPENING_BYTES, "opening"), length(e, STATE_BYTES, "state")];
-            [lengths.concat(), tables(a, b, c), opening(d)].concat()
-        }
+        Function::Open => open(call),
+        Function::IsClosed => tables(a, b, c),
+        Function::OpenClosed => [open(call), not_closed(&call.tune())].concat(),
         Function::Section => {
             let state = [length(d, STATE_BYTES, "state"), tables(a, b, c), state(d)];
             [state.concat(), output(call.number, e)].concat()
@@ -41,6 +41,12 @@ pub fn facts(call: &Call) -> Vec<Fact> {
         Function::Strikes => record(a, b, STRIKES_BYTES),
         Function::Line => record(a, b, LINE_BYTES),
     }
+}
+
+fn open(call: &Call) -> Vec<Fact> {
+    let [a, b, c, d, e] = &call.slots;
+    let lengths = [length(d, OPENING_BYTES, "opening"), length(e, STATE_BYTES, "state")];
+    [lengths.concat(), tables(a, b, c), opening(d)].concat()
 }
 
 fn of_rule<const N: usize>(rule: u8, facts: [(bool, &'static str); N]) -> Vec<Fact> {
@@ -99,6 +105,16 @@ fn state(bytes: &[u8]) -> Vec<Fact> {
         (targets.any(|ch| ch.target_frequency.is_nan()), "target not a number"),
     ];
     of_rule(11, facts)
+}
+
+/// Asked of tables of any sizes, so that a table may break rule 9 and this.
+fn not_closed(tune: &Tune) -> Vec<Fact> {
+    let facts = [
+        (closed::recalls(tune), "S with info 0"),
+        (closed::jumps_back(tune), "B at or before a place of its pattern"),
+        (closed::loops_twice(tune), "two rows of a pattern that loop"),
+    ];
+    of_rule(14, facts)
 }
 
 fn output(n: u32, output: &[u8]) -> Vec<Fact> {

@@ -1,9 +1,12 @@
 //! What neither the comparison of the list nor that at scale would show.
 
 use crate::calls::{Call, Function, UNTOUCHED};
-use crate::generate::{pitch, records};
+use crate::closed::{B, S, is_closed};
+use crate::generate::closed::Put;
+use crate::generate::{closed, pitch, records};
 use crate::list::{self, Case};
-use crate::player::bridge::{open, walk};
+use crate::player::bridge::{Original, open, walk};
+use crate::random::Random;
 use crate::strikes::struck;
 use crate::tune::{CELL, EMPTY_CELL, PATTERN_BYTES, RECORD_BYTES, ROW_BYTES, Tune, le32, le64};
 
@@ -105,4 +108,95 @@ fn strikes_are_put_into_32_bytes() {
     let expected = [&[31, 30, 5][..], &[0; 29], &[UNTOUCHED; 8]].concat();
     assert_eq!((answer.number, &answer.slots[1]), (3, &expected));
     assert_eq!(answer.slots[0], record);
+}
+
+/// Whether 02 has tables of so many patterns with these cells for a closed tune.
+fn closes(orders: &[u8], patterns: usize, puts: &[Put]) -> bool {
+    is_closed(&closed::table(orders, patterns, puts, pitch::opening()))
+}
+
+#[test]
+fn no_closed_tune_recalls() {
+    assert!(closes(&[0], 1, &[]));
+    assert!(closes(&[0xFF], 0, &[]));
+    assert!(!closes(&[0], 1, &[(0, 63, 31, [S, 0])]));
+    assert!(closes(&[0], 1, &[(0, 63, 31, [S, 1])]));
+    assert!(closes(&[0], 1, &[(0, 0, 0, [S - 1, 0]), (0, 0, 1, [S + 1, 0])]));
+    // In a pattern that no order names.
+    assert!(!closes(&[0], 2, &[(1, 5, 5, [S, 0])]));
+}
+
+#[test]
+fn no_closed_tune_jumps_to_a_place_of_its_pattern_or_before() {
+    let jumps_to = |orders: &[u8], pattern, to| closes(orders, 2, &[(pattern, 9, 9, [B, to])]);
+    assert_eq!(
+        [0, 1, 2, 3].map(|to| jumps_to(&[0, 1, 0], 1, to)),
+        [false, false, true, true]
+    );
+    // Pattern 0 is named by places 0 and 3: only the later one is passed by 1, 2 and 3.
+    assert_eq!(
+        [0, 1, 3, 4].map(|to| jumps_to(&[0, 1, 1, 0], 0, to)),
+        [false, false, false, true]
+    );
+    // A place behind the end is never reached.
+    assert!(!jumps_to(&[1, 0xFF, 0], 0, 1));
+    // No order names pattern 1: marks and missing patterns name none.
+    assert!(jumps_to(&[0, 0xFE, 0xFF, 2], 1, 0));
+    let last: Vec<u8> = [vec![0; 254], vec![1]].concat();
+    assert_eq!([253, 254, 255].map(|to| jumps_to(&last, 1, to)), [false, false, true]);
+}
+
+#[test]
+fn no_closed_tune_has_two_loops_in_a_pattern() {
+    let loops = |infos: &[(usize, usize, u8)]| {
+        let put = |&(row, channel, info)| (1, row, channel, [S, info]);
+        closes(&[0], 2, &infos.iter().map(put).collect::<Vec<Put>>())
+    };
+    assert!(loops(&[(3, 0, 0xB2)]));
+    assert!(!loops(&[(0, 0, 0xB1), (63, 31, 0xBF)]));
+    assert!(loops(&[(3, 0, 0xB2), (9, 0, 0xB0)]));
+    // The last SB of row 9 counts.
+    assert!(loops(&[(3, 0, 0xB2), (9, 4, 0xB2), (9, 5, 0xB0)]));
+    assert!(!loops(&[(3, 0, 0xB2), (9, 4, 0xB0), (9, 5, 0xB2), (9, 6, 0xE0)]));
+    assert!(loops(&[(3, 0, 0xB2), (3, 1, 0xB2), (9, 0, 0xA2), (10, 0, 0xC2)]));
+    assert!(closes(&[0, 1], 2, &[(0, 3, 0, [S, 0xB2]), (1, 3, 0, [S, 0xB2])]));
+}
+
+/// How many rows the original walks, and whether it came to an end.
+fn walked(tune: &Tune, most: usize) -> (usize, bool) {
+    let mut original = Original::new(tune);
+    let rows = original.rows_alone(&open(tune).encode(), most);
+    (rows, rows < most || original.bytes()[9] == 1)
+}
+
+/// 02: 'A closed tune ends within 16,384 rows an order, counting held visits'.
+const MOST_AN_ORDER: usize = 16_384;
+
+#[test]
+fn closed_tunes_end() {
+    let (mut walks, mut longest) = (0, 0);
+    for seed in 0..4_000 {
+        let tune = closed::tune(&mut Random::new(seed));
+        if is_closed(&tune) {
+            let (rows, ended) = walked(&tune, MOST_AN_ORDER * tune.orders.len());
+            assert!(ended, "seed {seed}");
+            (walks, longest) = (walks + 1, rows.max(longest));
+        }
+    }
+    assert!(
+        walks > 1_000 && longest > 10_000,
+        "{walks} walks, the longest of {longest} rows"
+    );
+}
+
+/// Each row is held 15 times, and the last one goes back to the first 15 times.
+#[test]
+fn a_closed_tune_is_long() {
+    let held = |row| (0, row, 4, [S, 0xEF]);
+    let puts: Vec<Put> = (0..64).map(held).chain([(0, 63, 5, [S, 0xBF])]).collect();
+    for orders in [1, 2, 7] {
+        let tune = closed::table(&vec![0; orders], 1, &puts, pitch::opening());
+        assert!(is_closed(&tune));
+        assert_eq!(walked(&tune, MOST_AN_ORDER * orders), (16_159 * orders, true));
+    }
 }

@@ -2,6 +2,7 @@
 //! asked one by one.
 
 mod card;
+mod closed;
 mod files;
 mod refusals;
 mod rows;
@@ -19,7 +20,7 @@ use std::path::Path;
 const MOST_BYTES: u64 = 3_000_000;
 
 /// So many things are asked for: none may drop out because nothing looks for it.
-const ASKED: usize = 6_178;
+const ASKED: usize = 6_477;
 
 /// Where a thing must be seen, behind its name: anywhere, from states, or there and along walks from Open.
 type Needed = &'static [&'static str];
@@ -147,7 +148,13 @@ pub fn telling(groups: impl Iterator<Item = Vec<Case>>, first: usize) -> Vec<Cas
 /// A tally that asks for all that no look names.
 fn asked() -> Tally {
     let mut tally = Tally::default();
-    for needs in [files::needs, rows::needs, refusals::needs, strikes::needs] {
+    for needs in [
+        files::needs,
+        rows::needs,
+        refusals::needs,
+        strikes::needs,
+        closed::needs,
+    ] {
         needs(&mut tally);
     }
     tally
@@ -163,7 +170,7 @@ fn see(tally: &mut Tally, sections: &mut Sections, case: &Case) -> Result<(), St
     }
     if first > 0 {
         refusals::see(tally, case, &broken);
-        return Ok(());
+        return if first == 14 { closed::see(tally, case) } else { Ok(()) };
     }
     match case.call.function {
         Function::Measure | Function::Read => files::see(tally, case)?,
@@ -171,6 +178,7 @@ fn see(tally: &mut Tally, sections: &mut Sections, case: &Case) -> Result<(), St
         Function::Section => sections.section(tally, case)?,
         Function::Strikes => strikes::see(tally, case, sections.gave(&case.call.slots[0]))?,
         Function::Line => refusals::see_line(tally, case),
+        Function::IsClosed | Function::OpenClosed => closed::see(tally, case)?,
     }
     Ok(())
 }

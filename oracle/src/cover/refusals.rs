@@ -1,6 +1,7 @@
-//! Refusals by rules 9 to 13 and by 255: each way to break them alone, and the order in which they are asked.
+//! Refusals by rules 9 to 14 and by 255: each way to break them alone, and the order in which they are asked.
 
 use super::Tally;
+use crate::calls::Function;
 use crate::card::unit;
 use crate::list::Case;
 use crate::rules;
@@ -8,6 +9,16 @@ use crate::tune::le16;
 
 pub fn needs(tally: &mut Tally) {
     tally.family("open by rule {}", ["9", "9 before 10", "255", "255 before 9 before 10"]);
+    tally.family("is_closed by rule {}", ["9"]);
+    let of_two = ["255 before 9", "9 before 10", "9 before 14", "10 before 14"];
+    tally.family(
+        "open_closed by rule {}",
+        ["255", "9", "10", "14"].into_iter().chain(of_two),
+    );
+    tally.family(
+        "open_closed by rule {}",
+        ["9 before 10 before 14", "255 before 9 before 10 before 14"],
+    );
     tally.family("section by rule {}", ["9", "9 before 11", "9 before 12"]);
     tally.family("section by rule {}", ["11 before 12", "9 before 11 before 12"]);
     tally.family("section by rule {}", ["255", "255 before 9"]);
@@ -24,6 +35,9 @@ pub fn see(tally: &mut Tally, case: &Case, broken: &[(u8, &str)]) {
     // No room of the list has the bytes that so many rows need.
     for (rule, what, _) in rules::facts(call).into_iter().filter(|fact| fact.1 != "n above 65,535") {
         tally.family(&format!("rule {rule}: {{}}"), [what]);
+        if matches!(call.function, Function::IsClosed | Function::OpenClosed) {
+            tally.family(&format!("{name} by rule {rule}: {{}}"), [what]);
+        }
     }
     let mut rules: Vec<String> = broken.iter().map(|(rule, _)| rule.to_string()).collect();
     rules.dedup();
@@ -32,7 +46,10 @@ pub fn see(tally: &mut Tally, case: &Case, broken: &[(u8, &str)]) {
     tally.note(format!("{name} by rule {}{empty}", rules.join(" before ")));
     let names: Vec<&str> = broken.iter().map(|&(_, what)| what).collect();
     match names[..] {
-        [what] => tally.note(format!("rule {}: {what}", rules[0])),
+        [what] => {
+            tally.note(format!("rule {}: {what}", rules[0]));
+            tally.note(format!("{name} by rule {}: {what}", rules[0]));
+        }
         _ if rules.len() == 1 => tally.note(format!("rules {}: {}", rules[0], names.join("; "))),
         _ => {}
     }

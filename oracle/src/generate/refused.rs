@@ -1,7 +1,7 @@
-//! Calls that may break any of the rules 9 to 13 and 255, alone or together.
+//! Calls that may break any of the rules 9 to 14 and 255, alone or together.
 
 use super::tunes::opening;
-use super::{noise, odd_bytes};
+use super::{closed, noise, odd_bytes};
 use crate::calls::{Call, Function};
 use crate::card::unit;
 use crate::list::ROOMS;
@@ -24,6 +24,23 @@ pub fn call(random: &mut Random, tune: &Tune) -> Call {
         5..8 => section(random, tune),
         _ => record(random),
     };
+    break_lengths(random, &mut call);
+    call
+}
+
+/// The same of a small tune that may be closed, to the two functions that ask for it.
+pub fn closed_call(random: &mut Random) -> Call {
+    let tune = closed::tune(random);
+    let mut call = Call::is_closed(&tune);
+    if random.chance(70) {
+        call = Call::open_closed(&tune);
+        call.slots[3] = broken_opening(random);
+    }
+    break_lengths(random, &mut call);
+    call
+}
+
+fn break_lengths(random: &mut Random, call: &mut Call) {
     let last = call.slots.iter().rposition(|slot| !slot.is_empty());
     for _ in 0..random.one(&[0, 0, 1, 2]) {
         let at = random.index(last.map_or(1, |last| last + 1));
@@ -31,12 +48,17 @@ pub fn call(random: &mut Random, tune: &Tune) -> Call {
         let other = random.one(&[any, any, length.saturating_sub(1), length + 1]);
         call.slots[at].resize(other.min(ROOMS[at]), 0);
     }
-    call
 }
 
 /// Open with values that may break rule 10.
 fn open(random: &mut Random, tune: &Tune) -> Call {
     let mut call = Call::open(tune);
+    call.slots[3] = broken_opening(random);
+    call
+}
+
+/// Opening values that may break rule 10.
+fn broken_opening(random: &mut Random) -> Vec<u8> {
     let mut opening = opening(random);
     match random.below(10) {
         0 => opening[0] = 0,
@@ -47,8 +69,7 @@ fn open(random: &mut Random, tune: &Tune) -> Call {
         5 => opening[8..12].copy_from_slice(&random.one(&[100_001, u32::MAX]).to_le_bytes()),
         _ => {}
     }
-    call.slots[3] = opening;
-    call
+    opening
 }
 
 /// Section with a state and a size that may break rules 11 and 12.

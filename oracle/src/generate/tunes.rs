@@ -85,7 +85,7 @@ fn orders(random: &mut Random, style: &Style) -> Vec<u8> {
     out
 }
 
-fn sample(random: &mut Random) -> [u8; SAMPLE_BYTES] {
+pub fn sample(random: &mut Random) -> [u8; SAMPLE_BYTES] {
     let (adlib, any) = (random.between(2, 7), random.byte());
     let mut out = [0; SAMPLE_BYTES];
     out[0] = random.weighted(&[(7, 1), (4, adlib), (1, 0), (1, any)]);
