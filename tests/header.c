@@ -1,5 +1,6 @@
 /* The header and the archive alone. Prints the sheet of the S3M file on standard input. With the argument `null` it tries
- * NULL with length 0 everywhere, with `strikes` their order, with `stack` how much stack the calls on that file take. */
+ * NULL with length 0 everywhere, with `strikes` their order, with `closed` whether that file is closed,
+ * with `stack` how much stack the calls on that file take. */
 #define _GNU_SOURCE
 #include "lomqashe.h"
 #include <math.h>
@@ -45,6 +46,17 @@ static void open_tune(void)
 {
     answer = lomqashe_open(orders, n_orders, cells, n_cells, samples, n_samples, opening, sizeof opening, state,
                            sizeof state);
+}
+
+static void is_closed(void)
+{
+    answer = lomqashe_is_closed(orders, n_orders, cells, n_cells, samples, n_samples);
+}
+
+static void open_closed(void)
+{
+    answer = lomqashe_open_closed(orders, n_orders, cells, n_cells, samples, n_samples, opening, sizeof opening, state,
+                                  sizeof state);
 }
 
 static void section(void)
@@ -126,6 +138,10 @@ static void null_tables(void)
     check(answer == 0, "read into NULL tables");
     open_tune();
     check(answer == 0, "open with NULL tables");
+    is_closed();
+    check(answer == 1, "an empty tune is closed");
+    open_closed();
+    check(answer == 0, "open_closed with NULL tables");
     answer = lomqashe_section(orders, n_orders, NULL, 0, NULL, 0, state, sizeof state, 0, NULL, 0);
     check(answer == 0, "a section of no rows into NULL");
     section();
@@ -145,6 +161,13 @@ static void null_refusals(void)
                    "open of NULL orders");
     expect_refusal(lomqashe_open(orders, 1, NULL, 0, NULL, 0, NULL, 0, state, sizeof state), 255, "open of NULL");
     expect_refusal(lomqashe_open(orders, 1, NULL, 0, NULL, 0, opening, sizeof opening, NULL, 0), 255, "open into NULL");
+    expect_refusal(lomqashe_is_closed(NULL, 0, NULL, 0, NULL, 0), 9, "is_closed of NULL orders");
+    expect_refusal(lomqashe_open_closed(NULL, 0, NULL, 0, NULL, 0, opening, sizeof opening, state, sizeof state), 9,
+                   "open_closed of NULL orders");
+    expect_refusal(lomqashe_open_closed(orders, 1, NULL, 0, NULL, 0, NULL, 0, state, sizeof state), 255,
+                   "open_closed of NULL");
+    expect_refusal(lomqashe_open_closed(orders, 1, NULL, 0, NULL, 0, opening, sizeof opening, NULL, 0), 255,
+                   "open_closed into NULL");
     expect_refusal(lomqashe_section(NULL, 0, NULL, 0, NULL, 0, state, sizeof state, 0, NULL, 0), 9,
                    "section of NULL orders");
     expect_refusal(lomqashe_section(orders, 1, NULL, 0, NULL, 0, NULL, 0, 0, NULL, 0), 255, "section from NULL");
@@ -168,6 +191,33 @@ static void strikes_in_order(void)
     memset(struck, 0xa5, sizeof struck);
     list_strikes();
     check(answer == 9 && memcmp(struck, expected, sizeof struck) == 0, "strikes in order");
+}
+
+/* The file's tune is closed, and open_closed() makes the state of open(); with S00 in its first cell it does not, and writes
+ * nothing. */
+static void closed_tunes(void)
+{
+    uint8_t opened[LOMQASHE_STATE_SIZE];
+    measure();
+    lend_tables();
+    read_tables();
+    open_tune();
+    memcpy(opened, state, sizeof state);
+    memset(state, 0xa5, sizeof state);
+    is_closed();
+    check(answer == 1, "is_closed");
+    open_closed();
+    check(answer == 0 && memcmp(opened, state, sizeof state) == 0, "open_closed");
+    cells[3] = 19;
+    cells[4] = 0;
+    is_closed();
+    check(answer == 0, "is_closed with S00");
+    state[0] = 0xa5;
+    memcpy(opened, state, sizeof state);
+    open_closed();
+    expect_refusal(answer, 14, "open_closed with S00");
+    check(memcmp(opened, state, sizeof state) == 0, "the state where open_closed refuses");
+    give_tables_back();
 }
 
 #define STACK 65536
@@ -196,7 +246,7 @@ static size_t stack_of(void (*call)(void))
 /* The second section starts where the first stopped. */
 static void stacks(void)
 {
-    void (*calls[])(void) = {read_tables, open_tune, section, section, list_strikes, write_line};
+    void (*calls[])(void) = {read_tables, is_closed, open_closed, open_tune, section, section, list_strikes, write_line};
     check(stack_of(measure) <= MOST_STACK, "stack of measure");
     lend_tables();
     for (size_t i = 0; i < sizeof calls / sizeof *calls; i++) {
@@ -213,6 +263,8 @@ int main(int argc, char **argv)
         print_sheet();
     } else if (strcmp(argv[1], "strikes") == 0) {
         strikes_in_order();
+    } else if (strcmp(argv[1], "closed") == 0) {
+        closed_tunes();
     } else if (strcmp(argv[1], "stack") == 0) {
         stacks();
     } else {

@@ -1,7 +1,7 @@
 /*
  * lomqashe.h - the row sheet of a Scream Tracker 3 tune
  *
- * Six functions over numbers and bytes, in the archive target/staticlib/liblomqashe.a that
+ * Eight functions over numbers and bytes, in the archive target/staticlib/liblomqashe.a that
  * `rt staticlib lomqashe` writes. Each result, and every byte written, is proved equal to a
  * definition that the function's contract in crates/lomqashe/src/lib.rt names, for all inputs: no
  * length and no value is a mistake that a function doesn't answer. They keep nothing between calls,
@@ -11,11 +11,11 @@
  * The archive is for x86-64: ELF objects, the System V calling convention. It links into programs,
  * position independent ones too, and into shared objects.
  *
- * Stack: lomqashe_section() takes 18,664 bytes at the most, lomqashe_open() 8,120, the others below
- * 400, arguments included. This was measured on a painted stack, over 3,000 tunes and states of
- * random bytes and two files, and is what the frames in the archive add up to; nothing there calls
- * itself. Where the dynamic linker looks memcpy up at the first call, that comes on top. A test asks
- * that no call takes more than 32 KiB.
+ * Stack: lomqashe_section() takes 18,664 bytes at the most, lomqashe_open() and
+ * lomqashe_open_closed() 11,080, the others below 400, arguments included. This was measured on a
+ * painted stack and is what the frames in the archive add up to; nothing there calls itself. Where
+ * the dynamic linker looks memcpy up at the first call, that comes on top. A test asks that no call
+ * takes more than 32 KiB.
  *
  * What C must see to: a pointer's length is that of memory which the caller owns; memory that a
  * call writes overlaps no other argument. A pointer may be NULL where its length is 0, as that of
@@ -47,6 +47,7 @@
  *              that is not a number
  *     12       n is above 65,535, or the output shorter than 536 * n bytes
  *     13       the record is not 536 bytes, or the output has under 32 (strikes) or 64 (line)
+ *     14       the tune is not closed, as lomqashe_is_closed() says it
  *     255      counts, opening or state is not LOMQASHE_COUNTS_SIZE, _OPENING_SIZE or _STATE_SIZE
  *              bytes long
  *
@@ -160,6 +161,39 @@ uint32_t lomqashe_open(const uint8_t *orders, size_t orders_size,
                        const uint8_t *samples, size_t samples_size,
                        const uint8_t *opening, size_t opening_size,
                        uint8_t *state, size_t state_size);
+
+/*
+ * lomqashe_is_closed() says whether a tune is closed, which makes it sure to end.
+ *
+ * A closed tune has
+ *
+ *     no cell with S and info 0;
+ *     no cell with B whose info is i or less, where the order at place i, reached or not, names the
+ *     cell's pattern (places are counted from 0);
+ *     in each pattern at most one row that loops: of its cells with S and an info of 0xb0 to 0xbf,
+ *     that of the highest channel has an info above 0xb0.
+ *
+ * Every pattern counts, whether an order names it or not; for B, one that no order names has no
+ * place. From the state that lomqashe_open() or lomqashe_open_closed() makes, a closed tune ends
+ * within 16,384 rows an order, held ones counted.
+ *
+ * Gives 1 where it is closed and 0 where it is not. Refuses with 9.
+ */
+uint32_t lomqashe_is_closed(const uint8_t *orders, size_t orders_size,
+                            const uint8_t *cells, size_t cells_size,
+                            const uint8_t *samples, size_t samples_size);
+
+/*
+ * lomqashe_open_closed() makes the state in which a closed tune starts, and opens no other. What it
+ * takes and writes is as with lomqashe_open().
+ *
+ * Gives 0. Refuses with 255 (opening, state), 9, 10 and 14.
+ */
+uint32_t lomqashe_open_closed(const uint8_t *orders, size_t orders_size,
+                              const uint8_t *cells, size_t cells_size,
+                              const uint8_t *samples, size_t samples_size,
+                              const uint8_t *opening, size_t opening_size,
+                              uint8_t *state, size_t state_size);
 
 /*
  * lomqashe_section() goes on by up to n rows.

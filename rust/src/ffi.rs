@@ -32,6 +32,26 @@ mod raw {
             state: *mut u8,
             state_len: usize,
         ) -> u32;
+        pub fn lomqashe_is_closed(
+            orders: *const u8,
+            orders_len: usize,
+            cells: *const u8,
+            cells_len: usize,
+            samples: *const u8,
+            samples_len: usize,
+        ) -> u32;
+        pub fn lomqashe_open_closed(
+            orders: *const u8,
+            orders_len: usize,
+            cells: *const u8,
+            cells_len: usize,
+            samples: *const u8,
+            samples_len: usize,
+            opening: *const u8,
+            opening_len: usize,
+            state: *mut u8,
+            state_len: usize,
+        ) -> u32;
         pub fn lomqashe_section(
             orders: *const u8,
             orders_len: usize,
@@ -93,6 +113,43 @@ pub fn read(
 pub fn open(orders: &[u8], cells: &[u8], samples: &[u8], opening: &[u8], state: &mut [u8]) -> Result<u32, Refusal> {
     answer(unsafe {
         raw::lomqashe_open(
+            orders.as_ptr(),
+            orders.len(),
+            cells.as_ptr(),
+            cells.len(),
+            samples.as_ptr(),
+            samples.len(),
+            opening.as_ptr(),
+            opening.len(),
+            state.as_mut_ptr(),
+            state.len(),
+        )
+    })
+}
+
+/// 1 where the tune is closed, 0 where it is not.
+pub fn is_closed(orders: &[u8], cells: &[u8], samples: &[u8]) -> Result<u32, Refusal> {
+    answer(unsafe {
+        raw::lomqashe_is_closed(
+            orders.as_ptr(),
+            orders.len(),
+            cells.as_ptr(),
+            cells.len(),
+            samples.as_ptr(),
+            samples.len(),
+        )
+    })
+}
+
+pub fn open_closed(
+    orders: &[u8],
+    cells: &[u8],
+    samples: &[u8],
+    opening: &[u8],
+    state: &mut [u8],
+) -> Result<u32, Refusal> {
+    answer(unsafe {
+        raw::lomqashe_open_closed(
             orders.as_ptr(),
             orders.len(),
             cells.as_ptr(),
@@ -171,9 +228,11 @@ mod tests {
             });
             let opening = vec![0; length];
             wrong(2_624, |state| open(&orders, &[], &[], &opening, state));
+            wrong(2_624, |state| open_closed(&orders, &[], &[], &opening, state));
         }
         for length in [0, 2_623, 2_625] {
             wrong(length, |state| open(&orders, &[], &[], &[0; 144], state));
+            wrong(length, |state| open_closed(&orders, &[], &[], &[0; 144], state));
             wrong(length, |state| section(&orders, &[], &[], state, 0, &mut []));
         }
     }
@@ -183,7 +242,40 @@ mod tests {
         wrong(11, |counts| measure(b"", counts));
         wrong(143, |opening| read(b"", 0, &mut [], &mut [], &mut [], opening));
         wrong(2_623, |state| open(&[], &[], &[], &[0; 144], state));
+        wrong(2_623, |state| open_closed(&[], &[], &[], &[0; 144], state));
         wrong(2_623, |state| section(&[], &[], &[], state, u32::MAX, &mut []));
+    }
+
+    /// S00 in the first cell of one pattern, with opening values that break rule 10 or not.
+    #[test]
+    fn a_closed_tune_is_asked_for_last_and_nothing_is_written() {
+        let mut cells = [255, 0, 255, 0, 0].repeat(2_048);
+        let good: Vec<u8> = [&[6, 125, 64, 0, 0, 0, 0, 0, 1][..], &[0; 135]].concat();
+        let refused = |orders: &[u8], cells: &[u8], opening: &[u8]| {
+            let mut state = [UNTOUCHED; 2_624];
+            let rule = number(open_closed(orders, cells, &[], opening, &mut state));
+            assert!(state.iter().all(|&byte| byte == UNTOUCHED));
+            rule
+        };
+        assert_eq!(is_closed(&[0], &cells, &[]), Ok(1));
+        assert_eq!(open_closed(&[0], &cells, &[], &good, &mut [UNTOUCHED; 2_624]), Ok(0));
+        cells[3] = 19;
+        assert_eq!(is_closed(&[0], &cells, &[]), Ok(0));
+        assert_eq!(refused(&[0], &cells, &good), 14);
+        assert_eq!(refused(&[0], &cells, &[0; 144]), 10);
+        assert_eq!(refused(&[], &cells, &[0; 144]), 9);
+        for (orders, cells, samples) in [
+            (0, 10_240, 0),
+            (256, 0, 0),
+            (1, 10_239, 0),
+            (1, 0, 21),
+            (1, 101 * 10_240, 0),
+        ] {
+            assert_eq!(
+                number(is_closed(&vec![0; orders], &vec![0; cells], &vec![0; samples])),
+                9
+            );
+        }
     }
 
     #[test]

@@ -3,7 +3,7 @@
 use std::error::Error;
 use std::fmt;
 
-/// The rule that a file, a tune or a state breaks, by its number in document 01.
+/// The rule that a file, a tune or a state breaks, by its number in document 01 or 02.
 ///
 /// ```
 /// let refusal = lomqashe::Tune::read(b"no tune", 60_000).unwrap_err();
@@ -14,7 +14,7 @@ use std::fmt;
 pub struct Refusal(u8);
 
 impl Refusal {
-    /// A length at the library's border is wrong: no rule of document 01.
+    /// A length at the library's border is wrong: no rule of a document.
     pub(crate) const WRONG_LENGTH: Refusal = Refusal(255);
 
     /// The refusal of a number; none for 0.
@@ -22,7 +22,7 @@ impl Refusal {
         (number != 0).then_some(Refusal(number))
     }
 
-    /// 1 to 13, or 255 where a length at the library's border is wrong.
+    /// 1 to 14, or 255 where a length at the library's border is wrong.
     pub fn number(self) -> u8 {
         self.0
     }
@@ -47,6 +47,7 @@ impl Refusal {
             }
             12 => "more than 65,535 rows are asked for, or the output is too short for them",
             13 => "the record is not 536 bytes, or the output is too short for its strikes or line",
+            14 => "tune not closed",
             _ => "a length at the library's border is wrong",
         }
     }

@@ -1,9 +1,10 @@
 //! A tune: owned tables and opening values, and the calls on them.
 
 use crate::bytes::u32_at;
+use crate::closed::first_breach;
 use crate::opening::OPENING_BYTES;
 use crate::repeat::first_repeat;
-use crate::{Opening, PATTERN_BYTES, Refusal, Repeat, Rows, SAMPLE_BYTES, Sections, State, ffi};
+use crate::{Breach, Opening, PATTERN_BYTES, Refusal, Repeat, Rows, SAMPLE_BYTES, Sections, State, ffi};
 
 /// How many entries a file's tables have.
 #[derive(Clone, Copy, Debug, PartialEq, Eq, Hash)]
@@ -87,6 +88,58 @@ impl Tune {
         let opening = self.opening.to_bytes();
         ffi::open(&self.orders, &self.cells, &self.samples, &opening, state.as_mut_bytes())?;
         Ok(state)
+    }
+
+    /// Whether the tune is closed, which makes it sure to end, or rule 9. A closed tune has no S with info 0; no B whose target
+    /// is at or before a place in the orders that names its pattern, reached or not; and in each pattern at most one row whose
+    /// last SB has p above 0. Patterns that no order names count too, but for B, since they have no place. From its opening
+    /// on it has at most 16,384 rows for each order, held ones counted.
+    ///
+    /// ```
+    /// let mut tune = lomqashe::Tune::read(include_bytes!("../../oracle/examples/worked.s3m"), 60_000)?;
+    /// assert!(tune.is_closed()?);
+    /// // B09 on channel 1 of row 1 becomes B00.
+    /// tune.cells[160 + 5 + 4] = 0;
+    /// assert!(!tune.is_closed()?);
+    /// # Ok::<(), lomqashe::Refusal>(())
+    /// ```
+    pub fn is_closed(&self) -> Result<bool, Refusal> {
+        let closed = ffi::is_closed(&self.orders, &self.cells, &self.samples)?;
+        Ok(closed == 1)
+    }
+
+    /// What [`Tune::open`] gives, but of a closed tune only: rule 9, 10, or 14 where it is not closed.
+    ///
+    /// ```
+    /// let mut tune = lomqashe::Tune::read(include_bytes!("../../oracle/examples/worked.s3m"), 60_000)?;
+    /// assert_eq!(tune.open_closed()?, tune.open()?);
+    /// tune.cells[3..5].copy_from_slice(&[19, 0]);
+    /// let refusal = tune.open_closed().unwrap_err();
+    /// assert_eq!(refusal.to_string(), "tune not closed (rule 14)");
+    /// # Ok::<(), lomqashe::Refusal>(())
+    /// ```
+    pub fn open_closed(&self) -> Result<State, Refusal> {
+        let mut state = State::blank();
+        let opening = self.opening.to_bytes();
+        ffi::open_closed(&self.orders, &self.cells, &self.samples, &opening, state.as_mut_bytes())?;
+        Ok(state)
+    }
+
+    /// What keeps the tune from being closed, for a person to find it: the first S with info 0, else the first B that may go
+    /// back, both by pattern, row and channel, else the first pattern with two rows that loop. None where the tune is closed.
+    /// This is plain Rust beside the proved library: tests hold it against [`Tune::is_closed`], and nothing is proved of it.
+    ///
+    /// ```
+    /// use lomqashe::{Breach, CellPlace};
+    /// let mut tune = lomqashe::Tune::read(include_bytes!("../../oracle/examples/worked.s3m"), 60_000)?;
+    /// assert_eq!(tune.first_breach(), None);
+    /// tune.cells[160 + 5 + 4] = 0;
+    /// let cell = CellPlace { pattern: 0, row: 1, channel: 1 };
+    /// assert_eq!(tune.first_breach(), Some(Breach::JumpBack { cell, target: 0, order: 0 }));
+    /// # Ok::<(), lomqashe::Refusal>(())
+    /// ```
+    pub fn first_breach(&self) -> Option<Breach> {
+        first_breach(self)
     }
 
     /// Up to `rows` rows from the state on, each a record of 536 bytes in `output`; the state moves behind them. Where it is

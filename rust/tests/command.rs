@@ -77,6 +77,7 @@ fn a_wrong_command_line_has_status_2() {
         &["--loud"],
         &["--channels=yes", WORKED],
         &["--once=no", WORKED],
+        &["--closed=yes", WORKED],
         &["--help=no"],
         &["--version="],
         &["--=", WORKED],

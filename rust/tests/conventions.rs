@@ -1,8 +1,8 @@
 //! What Rust programs expect of types.
 
 use lomqashe::{
-    ChannelOpening, Counts, CutSection, Opening, Record, Refusal, Repeat, Rows, Section, Sections, State, Strikes,
-    Tune, Voice,
+    Breach, CellPlace, ChannelOpening, Counts, CutSection, Opening, Record, Refusal, Repeat, Rows, Section, Sections,
+    State, Strikes, Tune, Voice,
 };
 use std::fmt::{Debug, Display};
 use std::hash::Hash;
@@ -17,6 +17,8 @@ fn bytes<'b, T: AsRef<[u8]> + TryFrom<&'b [u8], Error = Refusal>>() {}
 
 #[test]
 fn types_have_the_common_traits() {
+    value::<Breach>();
+    value::<CellPlace>();
     value::<ChannelOpening>();
     value::<Counts>();
     value::<CutSection>();

@@ -19,6 +19,8 @@ pub struct Args {
     pub sections: u32,
     pub form: Form,
     pub once: bool,
+    /// Open closed tunes alone.
+    pub closed: bool,
     pub svg: Option<PathBuf>,
     pub save: Option<PathBuf>,
     pub from: Option<PathBuf>,
@@ -33,6 +35,7 @@ impl Default for Args {
             sections: 50,
             form: Form::Rows,
             once: false,
+            closed: false,
             svg: None,
             save: None,
             from: None,
@@ -129,6 +132,10 @@ fn option(args: &mut Args, word: &Word, words: &mut impl Iterator<Item = OsStrin
         "--once" => {
             word.alone()?;
             args.once = true;
+        }
+        "--closed" => {
+            word.alone()?;
+            args.closed = true;
         }
         "--rate" => args.rate = Some(word.number(words, 1, 100_000)? as u32),
         "--rows" => args.rows = word.number(words, 0, u64::from(u32::MAX))?,

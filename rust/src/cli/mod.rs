@@ -9,7 +9,7 @@ mod walk;
 use args::{Args, Wish};
 use drawing::{Drawing, Plan};
 use files::Saved;
-use lomqashe::{Refusal, Repeat, Tune};
+use lomqashe::{Breach, Refusal, Repeat, State, Tune};
 use sheet::Printer;
 use std::ffi::OsString;
 use std::fs::File;
@@ -28,6 +28,7 @@ Reads standard input where no file is named, or where it is -.
   --rate N        the card's micrometres a second, 1 to 100000 (60000)
   --rows N        stop behind so many rows, and say `more` (10000)
   --once          stop before the rows of an endless tune come again, and say `repeats`
+  --closed        take only a closed tune, which is sure to end; another is refused, and what breaks it is named
   --sections N    cut the book in sections of N rows, 1 to 65535 (50); the sheet is the same
   --strikes       print the struck channels of each row, from the lowest frequency up
   --channels      print what the 32 channels do, a line for each row and channel; not with --strikes
@@ -48,14 +49,35 @@ on standard error; 2 where the command line is wrong, or a file cannot be read o
 
 /// 60 mm of card a second.
 const RATE: u32 = 60_000;
+/// The rule by which a tune is refused that is not closed.
+const NOT_CLOSED: u8 = 14;
 
 /// What went wrong, and the exit status that says so.
 enum Trouble {
-    Refused(Refusal),
+    Refused(Refused),
     Usage(String),
     File(PathBuf, io::Error),
     Drawing(String),
     Output(io::Error),
+}
+
+/// A refusal, and what keeps a tune from being closed.
+struct Refused {
+    refusal: Refusal,
+    breach: Option<Breach>,
+}
+
+impl From<Refusal> for Refused {
+    fn from(refusal: Refusal) -> Refused {
+        Refused { refusal, breach: None }
+    }
+}
+
+impl Refused {
+    fn told(&self) -> String {
+        let breach = self.breach.map_or(String::new(), |breach| format!(": {breach}"));
+        format!("refused: {}{breach}", self.refusal)
+    }
 }
 
 impl Trouble {
@@ -65,7 +87,7 @@ impl Trouble {
 
     fn told(&self) -> String {
         match self {
-            Trouble::Refused(refusal) => format!("refused: {refusal}"),
+            Trouble::Refused(refused) => refused.told(),
             Trouble::Usage(why) => format!("{why}; see lomqashe --help"),
             Trouble::File(file, why) => format!("{}: {why}", file.display()),
             Trouble::Drawing(why) => why.clone(),
@@ -110,8 +132,8 @@ fn print(args: &Args, out: &mut impl Write) -> Result<(), Trouble> {
     let mut printer = Printer::new(out, args.form);
     let mut plan = Plan::default();
     let printed = print_rows(&file, saved, args, &mut printer, &mut plan);
-    if let Err(refusal) = &printed {
-        printer.refused(*refusal);
+    if let Err(refused) = &printed {
+        printer.refused(refused.refusal);
     }
     let sheet = printer.finish().map_err(Trouble::Output);
     let Printed { run, end, repeat } = printed.map_err(Trouble::Refused)?;
@@ -137,7 +159,7 @@ fn print_rows(
     args: &Args,
     printer: &mut Printer<impl Write>,
     plan: &mut Plan,
-) -> Result<Printed, Refusal> {
+) -> Result<Printed, Refused> {
     let mut run = run_asked_for(file, saved, args)?;
     let repeat = match args.once {
         true => run.tune.first_repeat_from(&run.state, run.most)?,
@@ -159,11 +181,13 @@ fn print_rows(
     Ok(Printed { run, end, repeat })
 }
 
-fn run_asked_for(file: &[u8], saved: Option<Saved>, args: &Args) -> Result<Run, Refusal> {
+/// A tune that goes on from a saved state is asked to be closed too.
+fn run_asked_for(file: &[u8], saved: Option<Saved>, args: &Args) -> Result<Run, Refused> {
     let tune = Tune::read(file, args.rate.unwrap_or(RATE))?;
+    let opened = if args.closed { open_closed(&tune)? } else { tune.open()? };
     let (state, before) = match saved {
         Some(Saved { rows, state }) => (state, rows),
-        None => (tune.open()?, 0),
+        None => (opened, 0),
     };
     Ok(Run {
         tune,
@@ -171,6 +195,13 @@ fn run_asked_for(file: &[u8], saved: Option<Saved>, args: &Args) -> Result<Run, 
         before,
         section: args.sections,
         most: args.rows,
+    })
+}
+
+fn open_closed(tune: &Tune) -> Result<State, Refused> {
+    tune.open_closed().map_err(|refusal| Refused {
+        refusal,
+        breach: (refusal.number() == NOT_CLOSED).then(|| tune.first_breach()).flatten(),
     })
 }
 
@@ -203,7 +234,8 @@ fn draw(run: &Run, plan: &Plan, ended: bool, args: &Args) -> Result<(), Trouble>
     let out = BufWriter::new(File::create(path).map_err(trouble)?);
     let mut drawing = Drawing::new(out, layout);
     drawing.head(plan, &title(args), ended);
-    run.walk(|row| drawing.row(row)).map_err(Trouble::Refused)?;
+    run.walk(|row| drawing.row(row))
+        .map_err(|refusal| Trouble::Refused(refusal.into()))?;
     drawing.finish().map_err(trouble)
 }
 
