@@ -2,7 +2,7 @@
 
 use crate::rows::{SECTION, ours, walk};
 use crate::tunes::Kind;
-use crate::{path, reading, strikes};
+use crate::{closed, path, reading, strikes};
 use lomqashe::RECORD_BYTES;
 use oracle::player::bridge::{Original, open};
 use oracle::writer;
@@ -56,5 +56,19 @@ pub fn strikes(name: &str, library: bool) -> bool {
     let lists = if library { strikes::library } else { strikes::sorts };
     counted_work(&mut || lists(&records));
     println!("{}", records.len());
+    true
+}
+
+/// Asks the library or a plain loop whether the tune of a name is closed, and prints how many patterns it has. False: there
+/// is no such tune.
+pub fn closed(name: &str, library: bool) -> bool {
+    let Some([tune, ..]) = closed::named(name) else {
+        return false;
+    };
+    let asked = if library { closed::library } else { closed::plain };
+    counted_work(&mut || {
+        black_box(asked(black_box(&tune)));
+    });
+    println!("{}", closed::PATTERNS);
     true
 }

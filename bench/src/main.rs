@@ -1,7 +1,8 @@
-//! Times the library beside the original, on the same tunes in one run: walking rows, and reading files; and its lists of
-//! strikes beside a sort. README.md says what each column is.
+//! Times the library beside the original, on the same tunes in one run: walking rows, and reading files; its lists of
+//! strikes beside a sort, and its answer whether a tune is closed beside a loop. README.md says what each column is.
 
 mod clock;
+mod closed;
 mod count;
 mod path;
 mod reading;
@@ -12,7 +13,7 @@ mod tunes;
 use std::process::ExitCode;
 use tunes::Kind;
 
-const USAGE: &str = "usage: bench/run [rows | sections | strikes | reading]";
+const USAGE: &str = "usage: bench/run [rows | sections | strikes | closed | reading]";
 
 fn main() -> ExitCode {
     let words: Vec<String> = std::env::args().skip(1).collect();
@@ -26,8 +27,10 @@ fn main() -> ExitCode {
             println!();
             let listed = strikes::table();
             println!();
+            let closed = closed::table();
+            println!();
             reading::table();
-            same && listed
+            same && listed && closed
         }
         ["rows"] => rows::table(),
         ["sections"] => {
@@ -35,11 +38,13 @@ fn main() -> ExitCode {
             true
         }
         ["strikes"] => strikes::table(),
+        ["closed"] => closed::table(),
         ["reading"] => {
             reading::table();
             true
         }
         ["count", name, work @ ("strikes" | "sort")] => count::strikes(name, work == "strikes"),
+        ["count", name, work @ ("closed" | "loop")] => count::closed(name, work == "closed"),
         ["count", kind, work] => Kind::named(kind).is_some_and(|kind| count::run(kind, work)),
         _ => {
             eprintln!("{USAGE}");

@@ -58,14 +58,14 @@ pub fn compared(call: &Call, ours: &Answer, theirs: &Answer) -> Result<(), Strin
 
 fn place(function: Function, slot: usize, at: usize) -> String {
     match (function, slot) {
-        (Function::Open, 4) | (Function::Section, 3) if at >= HEAD_BYTES => {
+        (Function::Open | Function::OpenClosed, 4) | (Function::Section, 3) if at >= HEAD_BYTES => {
             let channel = (at - HEAD_BYTES) / CHANNEL_BYTES;
             format!(
                 "byte {} of channel {channel} of the state",
                 (at - HEAD_BYTES) % CHANNEL_BYTES
             )
         }
-        (Function::Open, 4) | (Function::Section, 3) => format!("byte {at} of the state"),
+        (Function::Open | Function::OpenClosed, 4) | (Function::Section, 3) => format!("byte {at} of the state"),
         (Function::Section, 4) => format!("byte {} of record {}", at % RECORD_BYTES, at / RECORD_BYTES),
         _ => format!("byte {at} of slot {slot}"),
     }

@@ -1,4 +1,4 @@
-//! The library's six functions, called on the bytes of a call.
+//! The library's eight functions, called on the bytes of a call.
 
 use oracle::calls::{Answer, Call, Function};
 
@@ -24,6 +24,19 @@ mod raw {
             el: usize,
         ) -> u32;
         pub fn lomqashe_open(
+            a: *const u8,
+            al: usize,
+            b: *const u8,
+            bl: usize,
+            c: *const u8,
+            cl: usize,
+            d: *const u8,
+            dl: usize,
+            e: *mut u8,
+            el: usize,
+        ) -> u32;
+        pub fn lomqashe_is_closed(a: *const u8, al: usize, b: *const u8, bl: usize, c: *const u8, cl: usize) -> u32;
+        pub fn lomqashe_open_closed(
             a: *const u8,
             al: usize,
             b: *const u8,
@@ -65,6 +78,8 @@ pub fn answer(call: &Call) -> Answer {
             Function::Section => raw::lomqashe_section(a, al, b, bl, c, cl, d, dl, call.number, e, el),
             Function::Strikes => raw::lomqashe_strikes(a, al, b, bl),
             Function::Line => raw::lomqashe_line(a, al, b, bl),
+            Function::IsClosed => raw::lomqashe_is_closed(a, al, b, bl, c, cl),
+            Function::OpenClosed => raw::lomqashe_open_closed(a, al, b, bl, c, cl, d, dl, e, el),
         }
     };
     Answer { number, slots }

@@ -1,8 +1,9 @@
-//! Puts the same calls to the library and to the judge (the original Rust through oracle/'s patched build, 01's reader and
-//! rules) and compares every answer and every byte that was lent. The first difference stops the run.
+//! Puts the same calls to the library and to the judge (the original Rust through oracle/'s patched build, 01's reader, 02's
+//! words and the rules) and compares every answer and every byte that was lent. The first difference stops the run.
 
 mod both;
 mod cells;
+mod closed;
 mod files;
 mod library;
 mod pitch;
@@ -50,6 +51,10 @@ fn compare(seed: u64, rows: u64) -> Result<(), String> {
     println!(
         "strikes: {}, 0 differences",
         strikes::compare(&mut Random::new(seed ^ 0x57B1), rows / 4)?
+    );
+    println!(
+        "closed: {}, 0 differences",
+        closed::compare(&mut Random::new(seed ^ 0xC105), rows / 100)?
     );
     println!(
         "refusals: {}, 0 differences",
