@@ -52,15 +52,22 @@ module _ (orders cells : List ℕ) where
   unfolding hasTwoLoops
   loops-few e pattern h = ltb-false 1 (howMany 64 (loops cells pattern)) (some-absent _ (patternCount cells) pattern h e)
 
+  -- none of the three clauses is broken
+  pub clauses : (hasRecall cells || hasReturn orders cells || hasTwoLoops cells) ≡ false
+      → (hasRecall cells ≡ false) × (hasReturn orders cells ≡ false) × (hasTwoLoops cells ≡ false)
+  clauses e =
+      let w = or-false (hasRecall cells || hasReturn orders cells) (hasTwoLoops cells) e in
+      let v = or-false (hasRecall cells) (hasReturn orders cells) (w .0) in
+      (v .0, v .1, w .1)
+
   pub closed-facts : closed orders cells ≡ true → Facts orders cells
   unfolding closed
   closed-facts e =
-      let w = or-false (hasRecall cells || hasReturn orders cells) (hasTwoLoops cells) (not-true _ e) in
-      let v = or-false (hasRecall cells) (hasReturn orders cells) (w .0) in
+      let v = clauses (not-true _ e) in
       record {
         no-recall = λ p r i h l m c x.
             not-both (sym (eq-eqb _ _ x) ∙ false-second _ _ (none-passes cells p recalls (recall-absent (v .0) p h) r i l m) (eq-eqb _ _ c));
         forward = λ place p r i a n h l m c.
             leb-false _ place (false-second _ _ (none-passes cells p (goesBack place) (return-absent (v .1) place p a n h) r i l m) (eq-eqb _ _ c));
-        one-loop = λ p r s h l m x y. only-one (loops cells p) 64 r s (loops-few (w .1) p h) l m x y;
+        one-loop = λ p r s h l m x y. only-one (loops cells p) 64 r s (loops-few (v .2) p h) l m x y;
       }

@@ -85,8 +85,8 @@ abbrev pub specialOrJumpAt : List ℕ → ℕ → Bool
 specialOrJumpAt row channel = isSpecialOrJump (cellOf row channel .command)
 
 pub either-more : (row : List ℕ) (channel : ℕ) → some (channel + 1) (specialOrJumpAt row) ≡ (some channel (specialOrJumpAt row) || isSpecialOrJump (getD row (channel * 5 + 3) 0))
-unfolding some cellOf
-either-more row channel = rw add-one
+unfolding cellOf
+either-more row channel = some-step (specialOrJumpAt row) channel
 
 -- a row with neither
 pub neither-row : (row : List ℕ) (after n : ℕ) → some n (specialOrJumpAt row) ≡ false → (false ≡ rowBreaks after row n) × (0 ≡ lastLoop row n)

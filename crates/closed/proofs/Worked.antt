@@ -15,7 +15,7 @@ use Rattle.tune.specs.Cells.{rowCells}
 use Rattle.tune.specs.declared.cells.Cell.{Cell}
 use Rattle.closed.specs.Closed.{someCell, recalls, hasRecall, goesBack, hasReturn, loops, hasTwoLoops, closed}
 use Rattle.closed.specs.Working.{afterLast, cellBreaks, rowBreaks, patternBreaks, breaks}
-use Rattle.closed.proofs.Facts.{cellIn, none-passes, recall-absent, return-absent, loops-few}
+use Rattle.closed.proofs.Facts.{cellIn, none-passes, recall-absent, return-absent, loops-few, clauses}
 
 -- each place that names the pattern is before it
 after-most : (orders : List ℕ) (p n place : ℕ) → place < n → getD orders place 0 ≡ p → place < afterLast orders p n
@@ -71,22 +71,16 @@ module _ (orders cells : List ℕ) where
         rw (recall, return, two)
 
   module _ (e : has ≡ false) where
-    none : (hasRecall cells ≡ false) × (hasReturn orders cells ≡ false) × (hasTwoLoops cells ≡ false)
-    none =
-        let w = or-false (hasRecall cells || hasReturn orders cells) (hasTwoLoops cells) e in
-        let v = or-false (hasRecall cells) (hasReturn orders cells) (w .0) in
-        (v .0, v .1, w .1)
-
     -- a cell that is S with info 0 or B to a place that names its pattern is nowhere
     kept : (p r i : ℕ) → p < patternCount cells → r < 64 → i < 32 → cellBreaks (afterOf p) (cellIn cells p r i) ≡ false
     unfolding cellBreaks
     kept p r i h l m =
-        let recall = none-passes cells p recalls (recall-absent orders cells (none .0) p h) r i l m in
+        let recall = none-passes cells p recalls (recall-absent orders cells (clauses orders cells e .0) p h) r i l m in
         let c = cellIn cells p r i in
         let back : (eqb (c .command) 2 && ltb (c .info) (afterOf p)) ≡ false =
         and-false (eqb (c .command) 2) (ltb (c .info) (afterOf p)) (λ b.
         le-ltb (c .info) (afterOf p) (after-least orders p (length orders) (c .info) (λ place a n.
-        leb-false (c .info) place (false-second _ _ (none-passes cells p (goesBack place) (return-absent orders cells (none .1) place p a n h) r i l m) b)))) in
+        leb-false (c .info) place (false-second _ _ (none-passes cells p (goesBack place) (return-absent orders cells (clauses orders cells e .1) place p a n h) r i l m) b)))) in
         rw (recall, back)
 
     breaks-none : breaks orders cells ≡ false
@@ -95,7 +89,7 @@ module _ (orders cells : List ℕ) where
         some-nowhere _ (patternCount cells) (λ p h.
         let rows : some 64 (λ r. rowBreaks (afterOf p) (rowCells cells p r) 32) ≡ false =
         some-nowhere _ 64 (λ r l. some-nowhere (λ i. cellBreaks (afterOf p) (cellIn cells p r i)) 32 (λ i m. kept p r i h l m)) in
-        rw (rows, le-ltb 1 (howMany 64 (loops cells p)) (loops-few orders cells (none .2) p h)))
+        rw (rows, le-ltb 1 (howMany 64 (loops cells p)) (loops-few orders cells (clauses orders cells e .2) p h)))
 
   pub worked-out : not (breaks orders cells) ≡ closed orders cells
   unfolding closed

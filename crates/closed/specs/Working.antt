@@ -1,4 +1,4 @@
--- How it is worked out whether a tune is closed: one pass over the cells. Assumes nothing.
+-- How it is worked out whether a tune is closed, row by row. Assumes nothing.
 use Prim.Native.Nat.{ℕ, zero, suc}
 use mathlib.Core.Bool.{Bool, _&&_, _||_}
 use mathlib.Core.List.{List}

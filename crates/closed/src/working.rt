@@ -1,4 +1,4 @@
-// Whether a tune is closed, worked out by one pass over the cells (02, 2026-03).
+// Whether a tune is closed, worked out row by row (02, 2026-03).
 ghost use mathlib.Core.Path.{_≡_};
 ghost use mathlib.Core.Bool.{_||_};
 ghost use Prim.Native.Nat.{_+_, _*_, _/_, _%_, _≤_, _<_};

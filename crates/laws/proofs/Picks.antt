@@ -26,6 +26,14 @@ chain f false p q = q refl
 pub either : {A : Type 0} (b : Bool) {x y z : A} → (b ≡ true → x ≡ z) → (b ≡ false → y ≡ z) → pick b x y ≡ z
 either b p q = chain (λ x. x) b p q
 
+-- a choice by whether two numbers are equal
+module _ {A : Type 0} (n m : ℕ) (x y : A) where
+  pub pick-equal : n ≡ m → pick (eqb n m) x y ≡ x
+  pick-equal h = either (eqb n m) (λ _. refl) (λ e. absurd (eqb-false n m e h))
+
+  pub pick-unequal : (n ≡ m → ⊥) → pick (eqb n m) x y ≡ y
+  pick-unequal h = either (eqb n m) (λ e. absurd (h (eqb-true n m e))) (λ _. refl)
+
 -- both lists have the length n
 pub either-length : {A : Type 0} (b : Bool) (x y : List A) (n : ℕ) → length x ≡ n → length y ≡ n → length (pick b x y) ≡ n
 either-length true x y n p q = p

@@ -5,11 +5,11 @@ use mathlib.Core.Bool.{Bool, true, false}
 use mathlib.Core.List.{List, [], _∷_}
 use native.Mathlib.Nat.{zero-add}
 use native.Mathlib.Omega.{arith}
-use borrow.Author.Tests.{eq-eqb, ne-eqb}
 use lib.Dec.{eqb}
 use lib.ListN.{length}
 use Rattle.laws.specs.Choice.{pick}
 use Rattle.laws.specs.Refusals.{Said, said}
+use Rattle.laws.proofs.Picks.{pick-equal, pick-unequal}
 use Rattle.laws.proofs.Pieces.{length-pieces}
 use Rattle.tune.specs.Opening.{blankOpening}
 use Rattle.tune.specs.declared.opening.Opening.{Opening}
@@ -39,13 +39,6 @@ use Rattle.lomqashe.specs.Typed.{TypedOpening}
 use Rattle.lomqashe.specs.Answers.{answerOf, wrong, countBytes, measureRefusal, countsAfter, readRefusal, openingBy, openingAfter, openedRefusal, openClosedRefusal, stateOpened, sectionBy, rowsAndEnded, sectionAnswer, stateAfter, recordsAfter}
 use Rattle.lomqashe.proofs.OpeningKept.{opening-kept}
 
-module _ {A : Type 0} (n m : ℕ) (x y : A) where
-  pub same-length : n ≡ m → pick (eqb n m) x y ≡ x
-  same-length h = ap (λ (b : Bool). pick b x y) (eq-eqb n m h)
-
-  pub other-length : (n ≡ m → ⊥) → pick (eqb n m) x y ≡ y
-  other-length h = ap (λ (b : Bool). pick b x y) (ne-eqb n m h)
-
 -- Measure
 -- the counts behind it, by what it answers
 abbrev countsBy : Measured → List ℕ → List ℕ
@@ -56,7 +49,7 @@ module _ (file counts : List ℕ) where
   pub measure-wrong : (length counts ≡ 12 → ⊥) → (answerOf wrong 0 ≡ answerOf (measureRefusal file counts) 0) × (counts ≡ countsAfter file (measureRefusal file counts) counts)
   unfolding measureRefusal countsAfter
   measure-wrong h =
-      let e = other-length (length counts) 12 (measureRule file) wrong h in
+      let e = pick-unequal (length counts) 12 (measureRule file) wrong h in
       (ap (λ (r : ℕ). answerOf r 0) (sym e), ap (λ (r : ℕ). pick (eqb r 0) (countBytes (countsOf file)) counts) (sym e))
 
   by-rule : countsBy (measured file) counts ≡ countsAfter file (measureRule file) counts
@@ -71,7 +64,7 @@ module _ (file counts : List ℕ) where
       → (answerOf (measuredSays m .number) 0 ≡ answerOf (measureRefusal file counts) 0) × (countsBy m counts ≡ countsAfter file (measureRefusal file counts) counts)
   unfolding measureRefusal
   measure-given g h e n =
-      let r = same-length (length counts) 12 (measureRule file) wrong h in
+      let r = pick-equal (length counts) 12 (measureRule file) wrong h in
       let m = ap (λ (s : Said Counts). s .number) (ap measuredSays (sym g) ∙ n) in
       (ap (λ (r : ℕ). answerOf r 0) (m ∙ sym r), ap (λ (m : Measured). countsBy m counts) (sym g ∙ e) ∙ by-rule ∙ ap (λ (r : ℕ). countsAfter file r counts) (sym r))
 
@@ -79,11 +72,11 @@ module _ (file counts : List ℕ) where
 module _ (file orders samples cells opening : List ℕ) where
   pub read-wrong : (length opening ≡ 144 → ⊥) → readRefusal file orders samples cells opening ≡ wrong
   unfolding readRefusal
-  read-wrong h = other-length (length opening) 144 (refusalOf file orders samples cells) wrong h
+  read-wrong h = pick-unequal (length opening) 144 (refusalOf file orders samples cells) wrong h
 
   pub read-given : length opening ≡ 144 → readRefusal file orders samples cells opening ≡ refusalOf file orders samples cells
   unfolding readRefusal
-  read-given h = same-length (length opening) 144 (refusalOf file orders samples cells) wrong h
+  read-given h = pick-equal (length opening) 144 (refusalOf file orders samples cells) wrong h
 
 pub kept-orders : (file orders : List ℕ) → orders ≡ ordersAfter file wrong orders
 unfolding ordersAfter
@@ -132,13 +125,13 @@ module _ (f : Opening → ℕ) (opening state : List ℕ) where
   refusal = openedRefusal (f (openingAt opening)) opening state
 
   no-opening : (length opening ≡ 144 → ⊥) → refusal ≡ wrong
-  no-opening h = other-length (length opening) 144 _ wrong h
+  no-opening h = pick-unequal (length opening) 144 _ wrong h
 
   no-state : length opening ≡ 144 → (length state ≡ 2624 → ⊥) → refusal ≡ wrong
-  no-state h k = same-length (length opening) 144 _ wrong h ∙ other-length (length state) 2624 (f (openingAt opening)) wrong k
+  no-state h k = pick-equal (length opening) 144 _ wrong h ∙ pick-unequal (length state) 2624 (f (openingAt opening)) wrong k
 
   by-rules : length opening ≡ 144 → length state ≡ 2624 → refusal ≡ f (openingAt opening)
-  by-rules h k = same-length (length opening) 144 _ wrong h ∙ same-length (length state) 2624 (f (openingAt opening)) wrong k
+  by-rules h k = pick-equal (length opening) 144 _ wrong h ∙ pick-equal (length state) 2624 (f (openingAt opening)) wrong k
 
   -- what these calls answer and leave: r and b
   pub record OpenedBytes (r : ℕ) (b : List ℕ) : Type 0 where
@@ -177,7 +170,7 @@ module _ (f : Opening → ℕ) (opening state : List ℕ) where
         by false = refl
 
     fresh : g .refusal ≡ 0 → g .state ≡ freshState (openingAt opening)
-    fresh z = ap (λ (g : Opened). g .state) by-bytes-opened ∙ ap freshState (same-length refusal 0 (openingAt opening) blankOpening (sym refusal-is ∙ z))
+    fresh z = ap (λ (g : Opened). g .state) by-bytes-opened ∙ ap freshState (pick-equal refusal 0 (openingAt opening) blankOpening (sym refusal-is ∙ z))
 
     pub opened-bytes : {r : ℕ} {b : List ℕ} → r ≡ answerOf (g .refusal) 0 → b ≡ pick (eqb (g .refusal) 0) (stateBytes (g .state)) state
         → (g .refusal ≡ 0 → stateOf b ≡ g .state) → OpenedBytes r b
@@ -222,7 +215,7 @@ nothing (section.Gave records ended s) h = absurd (h refl)
 module _ (t : Tables) (state : List ℕ) (n : ℕ) (output : List ℕ) where
   pub section-wrong : (length state ≡ 2624 → ⊥) → (answerOf wrong 0 ≡ sectionAnswer t state n output) × (state ≡ stateAfter t state n output) × (output ≡ recordsAfter t state n output)
   unfolding sectionAnswer stateAfter recordsAfter
-  section-wrong h = (sym (other-length (length state) 2624 _ _ h), sym (other-length (length state) 2624 _ _ h), sym (other-length (length state) 2624 _ _ h))
+  section-wrong h = (sym (pick-unequal (length state) 2624 _ _ h), sym (pick-unequal (length state) 2624 _ _ h), sym (pick-unequal (length state) 2624 _ _ h))
 
   module _ (h : length state ≡ 2624) (s : State) (g : Sectioned) (out : List ℕ) (es : s ≡ stateOf state) (eg : g ≡ sectioned (sectionOf t s n (length output))) (eo : out ≡ outputAfter output (sectionOf t s n (length output))) where
     by-bytes : g ≡ sectionBy t state n output
@@ -231,24 +224,24 @@ module _ (t : Tables) (state : List ℕ) (n : ℕ) (output : List ℕ) where
 
     answer-is : answerOf (g .refusal) (rowsAndEnded g) ≡ sectionAnswer t state n output
     unfolding sectionAnswer
-    answer-is = ap (λ (g : Sectioned). answerOf (g .refusal) (rowsAndEnded g)) by-bytes ∙ sym (same-length (length state) 2624 _ _ h)
+    answer-is = ap (λ (g : Sectioned). answerOf (g .refusal) (rowsAndEnded g)) by-bytes ∙ sym (pick-equal (length state) 2624 _ _ h)
 
     state-is : pick (eqb (g .refusal) 0) (stateBytes (g .state)) state ≡ stateAfter t state n output
     unfolding stateAfter
-    state-is = ap (λ (g : Sectioned). pick (eqb (g .refusal) 0) (stateBytes (g .state)) state) by-bytes ∙ sym (same-length (length state) 2624 _ _ h)
+    state-is = ap (λ (g : Sectioned). pick (eqb (g .refusal) 0) (stateBytes (g .state)) state) by-bytes ∙ sym (pick-equal (length state) 2624 _ _ h)
 
     records-are : out ≡ recordsAfter t state n output
     unfolding recordsAfter
-    records-are = eo ∙ ap (λ (s : State). outputAfter output (sectionOf t s n (length output))) es ∙ sym (same-length (length state) 2624 _ _ h)
+    records-are = eo ∙ ap (λ (s : State). outputAfter output (sectionOf t s n (length output))) es ∙ sym (pick-equal (length state) 2624 _ _ h)
 
     pub section-refused : (g .refusal ≡ 0 → ⊥) → (answerOf (g .refusal) 0 ≡ sectionAnswer t state n output) × (state ≡ stateAfter t state n output) × (out ≡ recordsAfter t state n output)
     section-refused r =
         let z : 0 ≡ rowsAndEnded g = nothing (sectionOf t s n (length output)) (λ e. r (ap (λ (g : Sectioned). g .refusal) eg ∙ e)) ∙ sym (ap rowsAndEnded eg) in
-        (ap (λ (v : ℕ). answerOf (g .refusal) v) z ∙ answer-is, sym (other-length (g .refusal) 0 (stateBytes (g .state)) state r) ∙ state-is, records-are)
+        (ap (λ (v : ℕ). answerOf (g .refusal) v) z ∙ answer-is, sym (pick-unequal (g .refusal) 0 (stateBytes (g .state)) state r) ∙ state-is, records-are)
 
     pub section-given : g .refusal ≡ 0 → (rowsAndEnded g ≡ sectionAnswer t state n output) × (stateBytes (g .state) ≡ stateAfter t state n output) × (out ≡ recordsAfter t state n output)
     section-given z =
-        (sym (zero-add (rowsAndEnded g)) ∙ ap (λ (r : ℕ). answerOf r (rowsAndEnded g)) (sym z) ∙ answer-is, sym (same-length (g .refusal) 0 (stateBytes (g .state)) state z) ∙ state-is, records-are)
+        (sym (zero-add (rowsAndEnded g)) ∙ ap (λ (r : ℕ). answerOf r (rowsAndEnded g)) (sym z) ∙ answer-is, sym (pick-equal (g .refusal) 0 (stateBytes (g .state)) state z) ∙ state-is, records-are)
 
     -- the bytes say the state that Section gives
     pub refused-kept : (g .refusal ≡ 0 → ⊥) → stateOf state ≡ sectionBy t state n output .state

@@ -1,11 +1,11 @@
 -- A row none of whose cells steers: its scan asks for nothing. Assumes nothing.
 use Prim.Native.Nat.{ℕ, zero, suc, _+_}
-use native.Mathlib.Numerals.{add-one}
 use mathlib.Core.Path.{_≡_, refl, _∙_}
 use mathlib.Core.Bool.{Bool, false, _||_}
 use mathlib.Core.List.{List}
 use Rattle.laws.specs.Entries.{some}
 use Rattle.laws.proofs.Picks.{or-false}
+use Rattle.laws.proofs.Tables.{some-step}
 use Rattle.tune.specs.Cells.{cellOf}
 use Rattle.row_path.specs.declared.scan.Scan.{Scan}
 use Rattle.row_path.specs.Scan.{scanned}
@@ -17,8 +17,8 @@ abbrev pub steersAt : List ℕ → ℕ → Bool
 steersAt row i = steers (cellOf row i .command)
 
 pub steers-more : (row : List ℕ) (i : ℕ) → some (i + 1) (steersAt row) ≡ (some i (steersAt row) || steers (commandAt row i))
-unfolding some cellOf
-steers-more row i = rw add-one
+unfolding cellOf
+steers-more row i = some-step (steersAt row) i
 
 pub unsteered : (row : List ℕ) (n : ℕ) (a : Scan) → some n (steersAt row) ≡ false → scanned row n a ≡ a
 unfolding some scanned

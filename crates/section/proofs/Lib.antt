@@ -3,7 +3,6 @@ pub mod Answers
 pub mod Counts
 pub mod Fields
 pub mod Nans
-pub mod Opens
 pub mod Ready
 pub mod Rounds
 pub mod Showing

@@ -1,6 +1,9 @@
 // Open.
 ghost use mathlib.Core.Path.{_≡_};
 ghost use mathlib.Core.List.{map};
+ghost use lib.Dec.{eqb};
+ghost use Rattle.laws.specs.Choice.{pick};
+ghost use Rattle.tune.specs.Opening.{blankOpening};
 ghost use Rattle.channel.specs.Opening.{openedChannel};
 ghost use Rattle.section.specs.Tables.{lent};
 ghost use Rattle.section.specs.Typed.{ByteTables, ShapedOpening};
@@ -56,19 +59,23 @@ pub fn open_rule(orders: &[u8], cells: &[u8], samples: &[u8], o: Opening) -> u8
     first_of(sizes_rule(orders, cells, samples), opening_rule(o))
 }
 
+// The opening values, or the blank ones beside a refusal.
+fn opening_by(rule: u8, o: Opening) -> Opening
+    ensures { λ r. ⌜ r ≡ pick (eqb rule 0) o blankOpening ⌝ }
+{
+    if rule == 0 {
+        return o;
+    }
+    blank_opening()
+}
+
 // 0 and the fresh state, or a rule's number and the blank state.
 pub fn opened_by(rule: u8, o: Opening) -> Opened
     ensures { λ r. ⌜ r ≡ openedBy rule o ⌝ }
 {
-    if rule == 0 {
-        return Opened {
-            refusal: rule,
-            state: fresh_state(o),
-        };
-    }
     Opened {
         refusal: rule,
-        state: fresh_state(blank_opening()),
+        state: fresh_state(opening_by(rule, o)),
     }
 }
 
