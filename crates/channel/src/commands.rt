@@ -1,7 +1,7 @@
 // Commands that act at a row's start.
 ghost use mathlib.Core.Path.{_≡_};
 ghost use Prim.Native.Nat.{_<_};
-ghost use Rattle.pitch.specs.Periods.{periods};
+ghost use Rattle.pitch.specs.Octaves.{keptPeriods};
 ghost use Rattle.pitch.specs.Slides.{factorNumber, slid};
 ghost use Rattle.pitch.specs.Limits.{limited};
 ghost use Rattle.channel.specs.Commands.{fineSlid, finetuned, waveformOf, keepsPosition, extendedBy, commanded};
@@ -39,7 +39,7 @@ fn slide_finely(c: Channel, up: bool, amiga: bool) -> Channel
 
 // S2x.
 fn tune_finely(c: Channel, p: u8, table: &[u32], amiga: bool) -> Channel
-    requires { ⌜ p < 16 ⌝ ∗ ⌜ now table ≡ periods ⌝ }
+    requires { ⌜ p < 16 ⌝ ∗ ⌜ now table ≡ keptPeriods ⌝ }
     ensures { λ r. ⌜ r ≡ finetuned c p amiga ⌝ }
 {
     let mut d = c;
@@ -75,7 +75,7 @@ fn keeps_position(p: u8) -> bool
 
 // Sxp.
 fn extended(c: Channel, x: u8, p: u8, table: &[u32], amiga: bool) -> Channel
-    requires { ⌜ p < 16 ⌝ ∗ ⌜ now table ≡ periods ⌝ }
+    requires { ⌜ p < 16 ⌝ ∗ ⌜ now table ≡ keptPeriods ⌝ }
     ensures { λ r. ⌜ r ≡ extendedBy c x p amiga ⌝ }
 {
     let mut d = c;
@@ -101,7 +101,7 @@ fn extended(c: Channel, x: u8, p: u8, table: &[u32], amiga: bool) -> Channel
 
 // The channel's command on tick 0.
 pub fn act(c: Channel, table: &[u32], w: Switches) -> Channel
-    requires { ⌜ now table ≡ periods ⌝ }
+    requires { ⌜ now table ≡ keptPeriods ⌝ }
     ensures { λ r. ⌜ r ≡ commanded c w ⌝ }
 {
     let mut d = c;

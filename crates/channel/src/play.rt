@@ -1,6 +1,6 @@
 // Playing a cell's instrument, note and volume.
 ghost use mathlib.Core.Path.{_≡_};
-ghost use Rattle.pitch.specs.Periods.{periods};
+ghost use Rattle.pitch.specs.Octaves.{keptPeriods};
 ghost use Rattle.channel.specs.Play.{loaded, cut, aimed, startOf, voiceOf, started, slides, noteOn, slidBack, noted, volumed, playCell};
 use crate::levels::choose;
 use crate::levels::clamp_pcm_volume;
@@ -108,7 +108,7 @@ fn is_slide(command: u8) -> bool
 }
 
 fn note_on(c: Channel, cell: Cell, named: SampleOption, table: &[u32], amiga: bool) -> Played
-    requires { ⌜ now table ≡ periods ⌝ }
+    requires { ⌜ now table ≡ keptPeriods ⌝ }
     ensures { λ r. ⌜ r ≡ noteOn c cell named amiga ⌝ }
 {
     match named {
@@ -135,7 +135,7 @@ fn note_on(c: Channel, cell: Cell, named: SampleOption, table: &[u32], amiga: bo
 }
 
 fn slide_back(c: Channel, cell: Cell, named: SampleOption, table: &[u32], amiga: bool) -> Channel
-    requires { ⌜ now table ≡ periods ⌝ }
+    requires { ⌜ now table ≡ keptPeriods ⌝ }
     ensures { λ r. ⌜ r ≡ slidBack c cell named amiga ⌝ }
 {
     match named {
@@ -151,7 +151,7 @@ fn slide_back(c: Channel, cell: Cell, named: SampleOption, table: &[u32], amiga:
 }
 
 fn note_column(c: Channel, cell: Cell, named: SampleOption, table: &[u32], amiga: bool) -> Played
-    requires { ⌜ now table ≡ periods ⌝ }
+    requires { ⌜ now table ≡ keptPeriods ⌝ }
     ensures { λ r. ⌜ r ≡ noted c cell named amiga ⌝ }
 {
     if cell.note == 254 {
@@ -194,7 +194,7 @@ pub fn play_cell(
     amiga: bool,
     global: u8,
 ) -> Played
-    requires { ⌜ now table ≡ periods ⌝ }
+    requires { ⌜ now table ≡ keptPeriods ⌝ }
     ensures { λ r. ⌜ r ≡ playCell c cell (now (samples .entry)) amiga global ⌝ }
 {
     let instrument = choose(cell.instrument == 0, c.instrument, cell.instrument);

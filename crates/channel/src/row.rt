@@ -1,6 +1,6 @@
 // A channel's half of the Rust's `enter_row`.
 ghost use mathlib.Core.Path.{_≡_};
-ghost use Rattle.pitch.specs.Periods.{periods};
+ghost use Rattle.pitch.specs.Octaves.{keptPeriods};
 ghost use Rattle.channel.specs.Row.{putsOff, putOff, heldBack, withInfo, delivered, relatched, channelEntered};
 use crate::commands::act;
 use crate::memory::arm;
@@ -57,7 +57,7 @@ fn hold_back(c: Channel, cell: Cell) -> Channel
 
 // The cell is played, put off, or both.
 fn deliver(c: Channel, cell: Cell, samples: &[u8], table: &[u32], amiga: bool, global: u8) -> Played
-    requires { ⌜ now table ≡ periods ⌝ }
+    requires { ⌜ now table ≡ keptPeriods ⌝ }
     ensures { λ r. ⌜ r ≡ delivered c cell (now (samples .entry)) amiga global ⌝ }
 {
     let in_force = with_info(cell, c.info);
@@ -93,7 +93,7 @@ pub fn enter_channel(
     w: Switches,
     global: u8,
 ) -> Played
-    requires { ⌜ now table ≡ periods ⌝ }
+    requires { ⌜ now table ≡ keptPeriods ⌝ }
     ensures { λ r. ⌜ r ≡ channelEntered c cell «s_info» (now (samples .entry)) w global ⌝ }
 {
     let mut memory = c.effect_memory;

@@ -2,7 +2,7 @@
 use mathlib.Core.Path.{_≡_, refl, sym, subst}
 use mathlib.Core.Logic.{inl, inr}
 use mathlib.Core.Bool.{Bool, true, _&&_}
-use Prim.Native.Nat.{ℕ, zero, suc, _*_, _≤_, _<_, max}
+use Prim.Native.Nat.{ℕ, zero, suc, _+_, _*_, _/_, _%_, _≤_, _<_, max}
 use native.Mathlib.Nat.{eq-or-lt-of-le, le-of-suc-le-suc, not-suc-le-zero, lt-trans, div-le-self, lt-of-le-of-lt}
 use native.Mathlib.Omega.{arith}
 use borrow.Author.Tests.{ltb-true}
@@ -74,6 +74,11 @@ period-88 = refl
 pub number-below : (note : ℕ) → noteNumber note < 108
 unfolding noteNumber
 number-below note = omega arith
+
+-- below octave 7 no number is cut
+pub number-uncut : (note : ℕ) → note / 16 * 12 + note % 16 < 84 → noteNumber note ≡ note / 16 * 12 + note % 16
+unfolding noteNumber
+number-uncut note h = omega arith
 
 -- a period at a c5 speed is below 2 to the power 28
 pub period-small : (n c5 : ℕ) → n < 108 → periodAt n c5 < 268435456

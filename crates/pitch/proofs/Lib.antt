@@ -1,4 +1,5 @@
 pub mod Falling
+pub mod Shifted
 pub mod Same
 pub mod Rounded
 pub mod Narrowing

@@ -1,4 +1,5 @@
 pub mod Periods
+pub mod Octaves
 pub mod Frequency
 pub mod Slides
 pub mod Limits

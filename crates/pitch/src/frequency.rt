@@ -3,10 +3,10 @@ ghost use mathlib.Core.Path.{_≡_};
 ghost use Prim.Native.Nat.{_<_, max};
 ghost use lib.Dec.{T};
 ghost use lib.Ieee.{le};
-ghost use Rattle.pitch.specs.Periods.{periods};
+ghost use Rattle.pitch.specs.Periods.{noteNumber};
+ghost use Rattle.pitch.specs.Octaves.{keptPeriods};
 ghost use Rattle.pitch.specs.Frequency.{narrowed, least, most, periodAt, frequencyOf, noteFrequency};
-use crate::periods::note_number;
-use crate::periods::period;
+use crate::periods::note_period;
 
 // x at 32 bits, nearest with ties to even. The exponent's field loses the difference of the two biases, 896, and the
 // digits are rounded to 29 fewer, a carry going into the field.
@@ -25,12 +25,12 @@ fn at_least_one(c5: u32) -> u32
     if c5 == 0 { 1 } else { c5 }
 }
 
-// The period of note number n at a c5 speed.
-fn period_at(n: usize, c5: u32, table: &[u32]) -> u32
-    requires { ⌜ n < 108 ⌝ ∗ ⌜ now table ≡ periods ⌝ }
-    ensures { λ r. ⌜ r ≡ periodAt n c5 ⌝ }
+// The period of a note byte at a c5 speed.
+fn period_at(note: u8, c5: u32, table: &[u32]) -> u32
+    requires { ⌜ now table ≡ keptPeriods ⌝ }
+    ensures { λ r. ⌜ r ≡ periodAt (noteNumber note) c5 ⌝ }
 {
-    8363 * period(n, table) / at_least_one(c5)
+    8363 * note_period(note, table) / at_least_one(c5)
 }
 
 fn frequency_of(period: u32) -> f32
@@ -45,8 +45,8 @@ fn frequency_of(period: u32) -> f32
 
 // The frequency of a note byte at a c5 speed.
 pub fn note_to_frequency(note: u8, c5: u32, table: &[u32]) -> f32
-    requires { ⌜ now table ≡ periods ⌝ }
+    requires { ⌜ now table ≡ keptPeriods ⌝ }
     ensures { λ r. ⌜ r ≡ noteFrequency note c5 ⌝ }
 {
-    frequency_of(period_at(note_number(note), c5, table))
+    frequency_of(period_at(note, c5, table))
 }

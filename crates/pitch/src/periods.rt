@@ -1,11 +1,12 @@
 // The period of a note.
 ghost use mathlib.Core.Path.{_≡_};
-ghost use Prim.Native.Nat.{_<_};
-ghost use Rattle.pitch.specs.Periods.{periods, periodOf, noteNumber};
+ghost use Prim.Native.Nat.{_+_, _*_, _/_, _%_, _<_};
+ghost use Rattle.pitch.specs.Periods.{periodOf, noteNumber};
+ghost use Rattle.pitch.specs.Octaves.{keptPeriods};
 use tune::numbers::high_nibble;
-use tune::numbers::low_nibble;
 
-const PERIODS: [u32; 108] = [
+// The 12 periods of octave 0, then the 24 of octaves 7 and 8.
+const PERIODS: [u32; 36] = [
     27392,
     25856,
     24384,
@@ -18,78 +19,6 @@ const PERIODS: [u32; 108] = [
     16256,
     15360,
     14496,
-    13696,
-    12928,
-    12192,
-    11520,
-    10848,
-    10240,
-    9664,
-    9120,
-    8608,
-    8128,
-    7680,
-    7248,
-    6848,
-    6464,
-    6096,
-    5760,
-    5424,
-    5120,
-    4832,
-    4560,
-    4304,
-    4064,
-    3840,
-    3624,
-    3424,
-    3232,
-    3048,
-    2880,
-    2712,
-    2560,
-    2416,
-    2280,
-    2152,
-    2032,
-    1920,
-    1812,
-    1712,
-    1616,
-    1524,
-    1440,
-    1356,
-    1280,
-    1208,
-    1140,
-    1076,
-    1016,
-    960,
-    906,
-    856,
-    808,
-    762,
-    720,
-    678,
-    640,
-    604,
-    570,
-    538,
-    508,
-    480,
-    453,
-    428,
-    404,
-    381,
-    360,
-    339,
-    320,
-    302,
-    285,
-    269,
-    254,
-    240,
-    226,
     214,
     202,
     190,
@@ -116,25 +45,48 @@ const PERIODS: [u32; 108] = [
     56,
 ];
 
-// The 108 periods, to be lent. An array is built where it is named: a loop names it once, before it starts.
-pub fn period_table() -> [u32; 108]
-    ensures { λ r. ⌜ r ≡ periods ⌝ }
+// The 36 periods, to be lent. An array is built where it is named: a loop names it once, before it starts.
+pub fn period_table() -> [u32; 36]
+    ensures { λ r. ⌜ r ≡ keptPeriods ⌝ }
 {
     PERIODS
 }
 
-// The period of note number n.
+// The period of note number n: up to 83 the octave 0 entry shifted right by the octave.
 pub fn period(n: usize, table: &[u32]) -> u32
-    requires { ⌜ n < 108 ⌝ ∗ ⌜ now table ≡ periods ⌝ }
+    requires { ⌜ n < 108 ⌝ ∗ ⌜ now table ≡ keptPeriods ⌝ }
     ensures { λ r. ⌜ r ≡ periodOf n ⌝ }
 {
-    table[n]
+    if n < 84 {
+        table[n % 12] >> (n / 12)
+    } else {
+        table[n - 72]
+    }
+}
+
+// Octave × 12 + semitone, not cut: a note byte has 16 for an octave, 4 too many.
+fn uncut_number(note: u8) -> usize
+    ensures { λ r. ⌜ r ≡ note / 16 * 12 + note % 16 ⌝ }
+{
+    note as usize - high_nibble(note) as usize * 4
 }
 
 // A note byte's number.
 pub fn note_number(note: u8) -> usize
     ensures { λ r. ⌜ r ≡ noteNumber note ⌝ ∗ ⌜ r < 108 ⌝ }
 {
-    let n = high_nibble(note) as usize * 12 + low_nibble(note) as usize;
+    let n = uncut_number(note);
     if n < 107 { n } else { 107 }
+}
+
+// A note byte's period. Only numbers from 84 up can be cut: below them the cut would cost each note three instructions.
+pub fn note_period(note: u8, table: &[u32]) -> u32
+    requires { ⌜ now table ≡ keptPeriods ⌝ }
+    ensures { λ r. ⌜ r ≡ periodOf (noteNumber note) ⌝ }
+{
+    let n = uncut_number(note);
+    if 84 <= n {
+        return period(note_number(note), table);
+    }
+    period(n, table)
 }

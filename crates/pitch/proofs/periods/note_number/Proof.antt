@@ -14,7 +14,4 @@ unfolding noteNumber
 returns-2 c = (omega arith, omega arith)
 
 pub note-number-spec : {M : Type 1} → statement M
-note-number-spec =
-    tie.close
-    (tie.spec (λ c κs. search needs) (λ c. search needs) (λ c. search needs) (λ c κs. search needs) (λ c. search needs)
-    (λ c. search needs) returns returns-2)
+note-number-spec = tie.close (tie.spec (λ c κs. search needs) returns returns-2)

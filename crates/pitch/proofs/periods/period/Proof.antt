@@ -1,19 +1,31 @@
 -- `pitch::periods::period` meets its contract. Assumes nothing.
-use mathlib.Core.Path.{refl}
+use Prim.Native.Nat.{_<_, _≤_}
+use native.Mathlib.Omega.{arith}
 use borrow.Author.Needs.{needs}
-use Rattle.pitch.specs.Periods.{periodOf}
+use Rattle.pitch.proofs.Shifted.{by-shift, by-entry}
 use Rattle.pitch.proofs.periods.period.Statement.{statement}
 use Rattle.pitch.proofs.periods.period.Tie as tie
 
-mul-result : tie.Need-mul-result
-mul-result c = search needs
-
 shared-slice-read-result : tie.Need-shared-slice-read-result
-shared-slice-read-result c = rw (c .before .pre .1) (c .before .pre .0)
+shared-slice-read-result c = rw (c .before .before .pre .1) (omega arith)
+
+shared-slice-read-result-2 : tie.Need-shared-slice-read-result-2
+shared-slice-read-result-2 c = rw (c .before .before .pre .1) (omega arith)
 
 returns : tie.Need-returns
-unfolding periodOf
-returns c = rw (c .before .pre .1) refl
+returns c =
+    let n = c .before .before .args .n in
+    let low : n < 84 = omega (arith, c .before .if1 .taken) in
+    rw (c .before .before .pre .1) (by-shift n low)
+
+returns-2 : tie.Need-returns-2
+returns-2 c =
+    let n = c .before .before .args .n in
+    let high : 84 ≤ n = omega (arith, c .before .if1 .left) in
+    rw (c .before .before .pre .1) (by-entry n high (c .before .before .pre .0))
 
 pub period-spec : {M : Type 1} → statement M
-period-spec = tie.close (tie.spec mul-result shared-slice-read-result returns)
+period-spec =
+    tie.close
+    (tie.spec (λ c. search needs) shared-slice-read-result (λ c. search needs) (λ c. search needs) (λ c. search needs)
+    (λ c. search needs) shared-slice-read-result-2 returns returns-2)
