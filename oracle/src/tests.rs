@@ -5,6 +5,7 @@ use crate::closed::{B, S, is_closed};
 use crate::generate::closed::Put;
 use crate::generate::{closed, pitch, records};
 use crate::list::{self, Case};
+use crate::player::PERIOD_TABLE;
 use crate::player::bridge::{Original, open, walk};
 use crate::random::Random;
 use crate::strikes::struck;
@@ -20,6 +21,18 @@ fn a_list_is_read_whole_or_misread() {
     assert_eq!(list::decode(&list).as_deref(), Ok(&cases[..]));
     assert!((0..list.len()).all(|length| list::decode(&list[..length]).is_err()));
     assert!(list::decode(&[&list[..], &[0]].concat()).is_err());
+}
+
+/// 02's words of the original's table: octaves 0 to 6 are the octave 0 entry shifted right by the octave. Of octaves 7 and
+/// 8 four entries are not; number 88 is 170.
+#[test]
+fn seven_octaves_are_shifts() {
+    let shifted = |n: usize| PERIOD_TABLE[n % 12] >> (n / 12);
+    let others: Vec<_> = (0..PERIOD_TABLE.len())
+        .filter(|&n| PERIOD_TABLE[n] != shifted(n))
+        .collect();
+    assert_eq!(others, [88, 91, 92, 100]);
+    assert_eq!((PERIOD_TABLE[88], shifted(88)), (170, 169));
 }
 
 /// Worked out by hand from 02: at speed 6 and rate 60,000 a row has 1,800,000 units of 1/(2 * tempo).
