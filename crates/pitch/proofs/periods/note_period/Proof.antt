@@ -8,14 +8,8 @@ use Rattle.pitch.proofs.Falling.{number-uncut}
 use Rattle.pitch.proofs.periods.note_period.Statement.{statement}
 use Rattle.pitch.proofs.periods.note_period.Tie as tie
 
-period-requires : tie.Need-period-requires
-period-requires c κs = search needs
-
 returns : tie.Need-returns
 returns c = cc
-
-period-requires-2 : tie.Need-period-requires-2
-period-requires-2 c κs = search needs
 
 returns-2 : tie.Need-returns-2
 returns-2 c =
@@ -26,4 +20,5 @@ returns-2 c =
 pub note-period-spec : {M : Type 1} → statement M
 note-period-spec =
     tie.close
-    (tie.spec (λ c κs. search needs) (λ c κs. search needs) period-requires returns period-requires-2 returns-2)
+    (tie.spec (λ c κs. search needs) (λ c κs. search needs) (λ c κs. search needs) returns (λ c κs. search needs)
+    returns-2)
