@@ -50,13 +50,13 @@ module _ (e : Entered) (globalVolume mask : ℕ) (channels : List Channel) where
   abbrev row : List ℕ
   row = recordBytes e globalVolume mask channels
 
-  at-start : drop startAt row ≡ bytesOf 8 (e .path .clock .start) ++ (bytesOf 4 mask ++ (bytesOf 4 (lengthOf (e .path .clock)) ++ channelsBytes channels))
+  pub at-start : drop startAt row ≡ bytesOf 8 (e .path .clock .start) ++ (bytesOf 4 mask ++ (bytesOf 4 (lengthOf (e .path .clock)) ++ channelsBytes channels))
   unfolding recordBytes rowHead
   at-start =
       append-assoc (bytesOf 8 (e .path .clock .start)) (bytesOf 4 mask ++ bytesOf 4 (lengthOf (e .path .clock))) (channelsBytes channels)
       ∙ ap (λ (l : List ℕ). bytesOf 8 (e .path .clock .start) ++ l) (append-assoc (bytesOf 4 mask) (bytesOf 4 (lengthOf (e .path .clock))) (channelsBytes channels))
 
-  at-mask : drop strikesAt row ≡ bytesOf 4 mask ++ (bytesOf 4 (lengthOf (e .path .clock)) ++ channelsBytes channels)
+  pub at-mask : drop strikesAt row ≡ bytesOf 4 mask ++ (bytesOf 4 (lengthOf (e .path .clock)) ++ channelsBytes channels)
   at-mask = sym (drop-drop 8 startAt row) ∙ ap (drop 8) at-start ∙ drop-at (bytesOf 8 (e .path .clock .start)) _ 8 (bytes-length 8 (e .path .clock .start))
 
   pub at-length : drop lengthAt row ≡ bytesOf 4 (lengthOf (e .path .clock)) ++ channelsBytes channels

@@ -1,0 +1,5 @@
+pub mod Masks
+pub mod Stepping
+pub mod Effects
+pub mod Accounts
+pub mod Rows
