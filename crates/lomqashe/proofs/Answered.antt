@@ -1,10 +1,11 @@
 -- The calls' answers and bytes, from what the functions below them give. Assumes nothing.
-use Prim.Native.Nat.{ℕ, zero, suc, _^_, _<_}
+use Prim.Native.Nat.{ℕ, zero, suc, _^_, _≤_, _<_}
 use mathlib.Core.Path.{_≡_, refl, sym, ap, _∙_, subst⁻¹}
 use mathlib.Core.Bool.{Bool, true, false}
 use mathlib.Core.List.{List, [], _∷_}
 use native.Mathlib.Nat.{zero-add}
 use native.Mathlib.Omega.{arith}
+use borrow.Author.Tests.{lt-ltb, le-ltb}
 use lib.Dec.{eqb}
 use lib.ListN.{length}
 use Rattle.laws.specs.Choice.{pick}
@@ -33,10 +34,13 @@ use Rattle.section.specs.Section as section
 use Rattle.closed.specs.Answers.{openClosedRule}
 use Rattle.closed.specs.Ends.{mostRows, EndsWithin}
 use Rattle.closed.proofs.Answered.{fresh-ends}
+use Rattle.punch_head.specs.Steps.{steppedSays, stepSays, stepRegisters}
+use Rattle.punch_head.specs.declared.Stepped.{Stepped}
+use Rattle.punch_head.specs.declared.actions.Action.{Action}
 use Rattle.lomqashe.specs.Openings.{openingSize, openingBytes, openingAt}
 use Rattle.lomqashe.specs.States.{stateSize, stateBytes, stateOf}
 use Rattle.lomqashe.specs.Typed.{TypedOpening}
-use Rattle.lomqashe.specs.Answers.{answerOf, wrong, countBytes, measureRefusal, countsAfter, readRefusal, openingBy, openingAfter, openedRefusal, openClosedRefusal, stateOpened, sectionBy, rowsAndEnded, sectionAnswer, stateAfter, recordsAfter}
+use Rattle.lomqashe.specs.Answers.{answerOf, wrong, countBytes, measureRefusal, countsAfter, readRefusal, openingBy, openingAfter, openedRefusal, openClosedRefusal, stateOpened, sectionBy, rowsAndEnded, sectionAnswer, stateAfter, recordsAfter, headRefusal, registersAfter}
 use Rattle.lomqashe.proofs.OpeningKept.{opening-kept}
 
 -- Measure
@@ -252,3 +256,15 @@ module _ (t : Tables) (state : List ℕ) (n : ℕ) (output : List ℕ) where
 
     pub given-kept : (b : List ℕ) → b ≡ stateBytes (g .state) → stateOf (stateBytes (g .state)) ≡ g .state → stateOf b ≡ sectionBy t state n output .state
     given-kept b e k = ap stateOf e ∙ k ∙ ap (λ (g : Sectioned). g .state) by-bytes
+
+-- the punch head's step
+module _ (registers : List ℕ) (command : ℕ) (row : List ℕ) where
+  pub command-wrong : 255 < command → (answerOf wrong 0 ≡ answerOf (headRefusal registers command row) 0) × (registers ≡ registersAfter registers command row)
+  unfolding headRefusal registersAfter
+  command-wrong h = rw (lt-ltb 255 command h) (refl, refl)
+
+  -- what `step` answers and leaves, by the case of its answer
+  pub head-stepped : {result a : Stepped} {after : List ℕ} → result ≡ a → command ≤ 255 → steppedSays result ≡ stepSays registers command row → after ≡ stepRegisters registers command row
+      → (answerOf (steppedSays a .number) 0 ≡ answerOf (headRefusal registers command row) 0) × (after ≡ registersAfter registers command row)
+  unfolding headRefusal registersAfter
+  head-stepped g h e f = rw (le-ltb 255 command h) (ap (λ (s : Said Action). answerOf (s .number) 0) (ap steppedSays (sym g) ∙ e), f)

@@ -3,7 +3,7 @@ use Prim.Native.Nat.{ℕ, _+_, _*_, _^_}
 use mathlib.Core.Bool.{Bool}
 use mathlib.Core.List.{List, _++_}
 use mathlib.Core.Option.{Option, none, some}
-use lib.Dec.{eqb}
+use lib.Dec.{eqb, ltb}
 use lib.ListN.{length}
 use Rattle.laws.specs.Choice.{pick}
 use Rattle.laws.specs.Refusals.{Said}
@@ -21,6 +21,8 @@ use Rattle.section.specs.Section.{sectionOf, sectioned, outputAfter}
 use Rattle.section.specs.declared.state.Sectioned.{Sectioned}
 use Rattle.s3m.specs.declared.ReadAnswer.the-variants as Read
 use Rattle.closed.specs.Answers.{openClosedRule}
+use Rattle.punch_head.specs.Registers.{headRule}
+use Rattle.punch_head.specs.Steps.{stepRegisters}
 use Rattle.lomqashe.specs.Openings.{openingSize, openingBytes, openingAt}
 use Rattle.lomqashe.specs.States.{stateSize, stateBytes, stateOf}
 
@@ -28,7 +30,7 @@ use Rattle.lomqashe.specs.States.{stateSize, stateBytes, stateOf}
 abbrev pub answerOf : ℕ → ℕ → ℕ
 answerOf refusal given = refusal * 2 ^ 24 + given
 
--- the refusal where a length at this border is wrong; it is asked before every rule
+-- the refusal where a length at this border is wrong, or a command no byte; it is asked before every rule
 abbrev pub wrong : ℕ
 wrong = 255
 
@@ -115,3 +117,11 @@ given (some n) = n
 -- what Strikes or Line says in one number
 abbrev pub inOne : Said ℕ → ℕ
 inOne s = answerOf (s .number) (given (s .values))
+
+-- the punch head's step: a command above 255 is no byte, which is asked first
+unfoldable pub headRefusal : List ℕ → ℕ → List ℕ → ℕ
+headRefusal registers command row = pick (ltb 255 command) wrong (headRule registers command row)
+
+-- the lent registers behind it
+unfoldable pub registersAfter : List ℕ → ℕ → List ℕ → List ℕ
+registersAfter registers command row = pick (ltb 255 command) registers (stepRegisters registers command row)

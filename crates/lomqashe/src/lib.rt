@@ -1,6 +1,6 @@
 // The calls for a program in C or Rust, over numbers and bytes alone: no caller has anything to show. Each answers a
-// number: bits 24 to 31 say why the call refuses (0 it does not, 1 to 14 the rule, 255 a length at this border is wrong,
-// and then nothing is written), bits 0 to 23 what it gives.
+// number: bits 24 to 31 say why the call refuses (0 it does not, 1 to 15 the rule, 255 a length at this border is wrong or
+// a command no byte, and then nothing is written), bits 0 to 23 what it gives.
 pub mod channels;
 pub mod floats;
 pub mod numbers;
@@ -23,12 +23,14 @@ ghost use Rattle.sheet.specs.Strikes.{strikesSay, strikesOutput};
 ghost use Rattle.sheet.specs.Lines.{lineSays, lineOutput};
 ghost use Rattle.lomqashe.specs.Openings.{openingAt};
 ghost use Rattle.lomqashe.specs.States.{stateBytes, stateOf};
-ghost use Rattle.lomqashe.specs.Answers.{answerOf, countBytes, measureRefusal, countsAfter, readRefusal, openingBy, openingAfter, openRefusal, openClosedRefusal, stateOpened, closedInOne, sectionBy, sectionAnswer, stateAfter, recordsAfter, inOne};
+ghost use Rattle.lomqashe.specs.Answers.{answerOf, countBytes, measureRefusal, countsAfter, readRefusal, openingBy, openingAfter, openRefusal, openClosedRefusal, stateOpened, closedInOne, sectionBy, sectionAnswer, stateAfter, recordsAfter, inOne, headRefusal, registersAfter};
 use closed::answer::ClosedAnswer;
 use closed::answer::is_closed;
 use closed::answer::open_closed;
 use opening::opening_of;
 use opening::put_opening;
+use punch_head::Stepped;
+use punch_head::step;
 use s3m::ReadAnswer;
 use s3m::header::Counts;
 use s3m::header::Measured;
@@ -46,7 +48,7 @@ use tune::numbers::u64_bytes;
 use tune::opening::Opening;
 use tune::parts::copy_whole;
 
-// The answer where a length at this border is wrong.
+// The answer where a length at this border is wrong, or a command no byte.
 const WRONG: u32 = 0xFF00_0000;
 
 fn refused(rule: u8) -> u32
@@ -282,5 +284,20 @@ pub extern "C" fn lomqashe_line(row: &[u8], out: &mut [u8]) -> u32
     match line(row, out) {
         Answer::Done(bytes) => done(bytes),
         Answer::Refused(number) => refused(number),
+    }
+}
+
+// The punch head's step: the sixteen registers are read and written.
+#[no_mangle]
+pub extern "C" fn lomqashe_head_step(registers: &mut [u8], command: u32, row: &[u8]) -> u32
+    ensures answer { λ r. ⌜ r ≡ answerOf (headRefusal (now (registers .entry)) command (now (row .entry))) 0 ⌝ }
+    ensures written { λ _. ⌜ now (registers .exit) ≡ registersAfter (now (registers .entry)) command (now (row .entry)) ⌝ }
+{
+    if 255 < command {
+        return WRONG;
+    }
+    match step(registers, command as u8, row) {
+        Stepped::Done(_) => 0,
+        Stepped::Refused(rule) => refused(rule),
     }
 }
