@@ -1,8 +1,9 @@
-//! Calls of the border's eight functions, bytes in and bytes out, and the judge of what they answer: the original for
-//! Open and Section, 01's reader for Measure and Read, 02's words for Strikes and closed tunes, and 01's for Line and for
-//! every other refusal.
+//! Calls of the border's nine functions, bytes in and bytes out, and the judge of what they answer: the original for
+//! Open and Section, 01's reader for Measure and Read, 02's words for Strikes, closed tunes and the punch head, and 01's
+//! for Line and for every other refusal.
 
 use crate::closed;
+use crate::head;
 use crate::player::bridge::{Original, open};
 use crate::reader::{self, Lent};
 use crate::rules::{self, COUNTS_BYTES};
@@ -24,12 +25,15 @@ pub enum Function {
     Line,
     IsClosed,
     OpenClosed,
+    HeadStep,
 }
 
 use Function::*;
 
 impl Function {
-    pub const ALL: [Function; 8] = [Measure, Read, Open, Section, Strikes, Line, IsClosed, OpenClosed];
+    pub const ALL: [Function; 9] = [
+        Measure, Read, Open, Section, Strikes, Line, IsClosed, OpenClosed, HeadStep,
+    ];
 
     pub fn name(self) -> &'static str {
         match self {
@@ -41,6 +45,7 @@ impl Function {
             Line => "line",
             IsClosed => "is_closed",
             OpenClosed => "open_closed",
+            HeadStep => "head_step",
         }
     }
 }
@@ -51,7 +56,7 @@ pub type Slots = [Vec<u8>; 5];
 #[derive(Clone, Debug, PartialEq, Eq)]
 pub struct Call {
     pub function: Function,
-    /// Read's rate, Section's n.
+    /// Read's rate, Section's n, a step's command.
     pub number: u32,
     pub slots: Slots,
 }
@@ -130,6 +135,10 @@ impl Call {
         Call::new(function, 0, [record.to_vec(), untouched(output)])
     }
 
+    pub fn head_step(registers: &[u8], command: u32, record: &[u8]) -> Call {
+        Call::new(HeadStep, command, [registers.to_vec(), record.to_vec()])
+    }
+
     /// The tables that a call on a tune is lent, without opening values.
     pub fn tune(&self) -> Tune {
         let [orders, cells, samples, ..] = self.slots.clone();
@@ -158,7 +167,7 @@ pub fn answer(call: &Call) -> Answer {
     Answer { number, slots }
 }
 
-/// What a call gives that breaks none of the rules 9 to 14.
+/// What a call gives that breaks none of the rules 9 to 15.
 fn write(call: &Call, slots: &mut Slots) -> Result<u32, u8> {
     match call.function {
         Measure => {
@@ -189,6 +198,7 @@ fn write(call: &Call, slots: &mut Slots) -> Result<u32, u8> {
             return Ok(line.len() as u32);
         }
         IsClosed => return Ok(closed::is_closed(&call.tune()).into()),
+        HeadStep => head::step(&mut slots[0], call.number as u8, &call.slots[1]),
     }
     Ok(0)
 }

@@ -3,6 +3,7 @@
 mod cells;
 pub mod closed;
 pub mod files;
+pub mod head;
 pub mod pitch;
 pub mod records;
 pub mod refused;

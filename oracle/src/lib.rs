@@ -5,6 +5,7 @@ pub mod card;
 pub mod closed;
 pub mod cover;
 pub mod generate;
+pub mod head;
 mod layout;
 pub mod list;
 pub mod plan;

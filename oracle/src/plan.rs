@@ -2,6 +2,7 @@
 //! that show something which none before them did.
 
 mod closed;
+mod head;
 mod pitch;
 mod strikes;
 
@@ -48,9 +49,11 @@ pub fn recorded() -> Vec<Case> {
     let mut cases = cover::telling(groups, first);
     let sections = cases.iter().filter(|case| case.call.function == Function::Section);
     let rows = sections.flat_map(|case| case.answer.records()).step_by(RECORDS);
-    let calls = |row| [Function::Strikes, Function::Line].map(|function| Call::of_record(function, row, 70));
-    let records: Vec<Case> = rows.flat_map(calls).map(Case::of).collect();
-    cases.extend(records);
+    let rows: Vec<&[u8]> = rows.collect();
+    let calls = |row: &&[u8]| [Function::Strikes, Function::Line].map(|function| Call::of_record(function, row, 70));
+    let records = rows.iter().flat_map(calls).map(Case::of);
+    let more: Vec<Case> = records.chain(head::cases(&rows)).collect();
+    cases.extend(more);
     cases
 }
 

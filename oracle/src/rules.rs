@@ -1,8 +1,9 @@
-//! Rules 9 to 14 written from 01 and 02 alone, and 255 from the border: the original refuses nothing.
+//! Rules 9 to 15 written from 01 and 02 alone, and 255 from the border: the original refuses nothing.
 
 use crate::calls::{Call, Function};
 use crate::card::unit;
 use crate::closed;
+use crate::head::{INTERRUPT, LATE, LOAD, LOADED, REGISTERS_BYTES, STATUS};
 use crate::state::{STATE_BYTES, State};
 use crate::tune::{OPENING_BYTES, Opening, PATTERN_BYTES, RECORD_BYTES, SAMPLE_BYTES, Tune};
 
@@ -40,6 +41,7 @@ pub fn facts(call: &Call) -> Vec<Fact> {
         }
         Function::Strikes => record(a, b, STRIKES_BYTES),
         Function::Line => record(a, b, LINE_BYTES),
+        Function::HeadStep => head_step(call.number, a, b),
     }
 }
 
@@ -123,10 +125,37 @@ fn output(n: u32, output: &[u8]) -> Vec<Fact> {
 }
 
 fn record(record: &[u8], output: &[u8], least: usize) -> Vec<Fact> {
+    let output = of_rule(13, [(output.len() < least, "output too short for it")]);
+    [record_length(record), output].concat()
+}
+
+fn record_length(record: &[u8]) -> Vec<Fact> {
     let facts = [
         (record.len() < RECORD_BYTES, "record too short"),
         (record.len() > RECORD_BYTES, "record too long"),
-        (output.len() < least, "output too short for it"),
     ];
     of_rule(13, facts)
+}
+
+/// 13 is asked on a load only.
+fn head_step(command: u32, head: &[u8], record: &[u8]) -> Vec<Fact> {
+    let no_byte = of_rule(WRONG_LENGTH, [(command > 255, "command above 255")]);
+    let record = if command == LOAD.into() {
+        record_length(record)
+    } else {
+        Vec::new()
+    };
+    [no_byte, registers(head), record].concat()
+}
+
+fn registers(bytes: &[u8]) -> Vec<Fact> {
+    let byte = |at: usize| bytes.get(at).map_or(0, |&byte| byte);
+    let facts = [
+        (bytes.len() < REGISTERS_BYTES, "registers too short"),
+        (bytes.len() > REGISTERS_BYTES, "registers too long"),
+        (byte(2) != 0, "register 2 not 0"),
+        (byte(3) != 0, "register 3 not 0"),
+        (byte(STATUS) & !(LOADED | LATE | INTERRUPT) != 0, "other status bits"),
+    ];
+    of_rule(15, facts)
 }

@@ -4,6 +4,7 @@ use crate::calls::{Call, Function, UNTOUCHED};
 use crate::closed::{B, S, is_closed};
 use crate::generate::closed::Put;
 use crate::generate::{closed, pitch, records};
+use crate::head::{CLEAR, LOAD, STRIKE, step};
 use crate::list::{self, Case};
 use crate::player::PERIOD_TABLE;
 use crate::player::bridge::{Original, open, walk};
@@ -211,5 +212,99 @@ fn a_closed_tune_is_long() {
         let tune = closed::table(&vec![0; orders], 1, &puts, pitch::opening());
         assert!(is_closed(&tune));
         assert_eq!(walked(&tune, MOST_AN_ORDER * orders), (16_159 * orders, true));
+    }
+}
+
+/// The mask 0x0C0B0A09 and the start 0x0807060504030201, with other bytes about them.
+fn punched() -> [u8; RECORD_BYTES] {
+    let mut record = [0x5A; RECORD_BYTES];
+    record[8..20].copy_from_slice(&[1, 2, 3, 4, 5, 6, 7, 8, 9, 10, 11, 12]);
+    record
+}
+
+/// Each allowed status, and those behind load, strike and clear, worked out by hand from 02.
+#[test]
+fn a_step_is_02s() {
+    let statuses = [
+        (0x00, [0x01, 0x00, 0x00]),
+        (0x01, [0x03, 0x80, 0x01]),
+        (0x02, [0x03, 0x02, 0x00]),
+        (0x03, [0x03, 0x82, 0x01]),
+        (0x80, [0x81, 0x80, 0x00]),
+        (0x81, [0x83, 0x80, 0x01]),
+        (0x82, [0x83, 0x82, 0x00]),
+        (0x83, [0x83, 0x82, 0x01]),
+    ];
+    let there = [31, 32, 33, 34, 35, 36, 37, 38, 39, 40, 41, 42];
+    let taken = [9, 10, 11, 12, 1, 2, 3, 4, 5, 6, 7, 8];
+    let registers = |command, status, rest| [&[command, status, 0, 0][..], rest].concat();
+    for (before, [loaded, struck, cleared]) in statuses {
+        // The row that is there stays where one is loaded.
+        let row = if before & 1 == 1 { &there } else { &taken };
+        let behind = [
+            (LOAD, loaded, row),
+            (STRIKE, struck, &there),
+            (CLEAR, cleared, &there),
+            (0, before, &there),
+            (4, before, &there),
+            (129, before, &there),
+        ];
+        for (command, status, rest) in behind {
+            let mut stepped = registers(77, before, &there);
+            step(&mut stepped, command, &punched());
+            assert_eq!(stepped, registers(command, status, rest), "{command} at {before:#x}");
+        }
+    }
+}
+
+/// So many registers, 0 but for one: what a step on them is refused by, which leaves all as it was.
+#[test]
+fn a_step_is_refused_by_255_then_15_then_13() {
+    let refused = |(at, byte): (usize, u8), length, command, record| {
+        let mut registers = vec![0; 20];
+        registers[at] = byte;
+        registers.truncate(length);
+        let case = Case::of(Call::head_step(&registers, command, &punched()[..record]));
+        assert!(case.answer.refusal() == 0 || case.answer.slots == case.call.slots);
+        case.answer.refusal()
+    };
+    // Any command, and what is in byte 0, are no fault.
+    for (byte, command) in [(0, 0), (255, 1), (1, 2), (2, 3), (3, 4), (9, 255)] {
+        assert_eq!(refused((0, byte), 16, command, 536), 0);
+    }
+    for command in 0..=4 {
+        let by = |edit, length| refused(edit, length, command, 536);
+        assert_eq!([0, 15, 17].map(|length| by((0, 0), length)), [15; 3]);
+        assert_eq!([(2, 1), (2, 128), (3, 1), (3, 128)].map(|edit| by(edit, 16)), [15; 4]);
+        let bits = [0, 1, 2, 3, 4, 5, 6, 7].map(|bit| by((1, 1 << bit), 16));
+        assert_eq!(bits, [0, 0, 15, 15, 15, 15, 15, 0]);
+    }
+    // A short record, on a load only, loaded or not; registers are asked first, and a command that is no byte before them.
+    assert_eq!([0, 1, 535].map(|length| refused((0, 0), 16, 1, length)), [13; 3]);
+    assert_eq!(refused((1, 1), 16, 1, 535), 13);
+    assert_eq!([0, 2, 3, 4, 255].map(|command| refused((0, 0), 16, command, 0)), [0; 5]);
+    assert_eq!(refused((3, 1), 16, 1, 535), 15);
+    assert_eq!(
+        [256, 257, u32::MAX].map(|command| refused((0, 0), 16, command, 536)),
+        [255; 3]
+    );
+    assert_eq!(refused((3, 1), 16, 257, 0), 255);
+}
+
+/// 02: 'Over every list of commands from sixteen zero bytes, strikes done plus one if loaded equals loads that were taken.'
+/// Here every list of seven commands from 0 to 3. A load that was taken is told by the mask, which is another for each row.
+#[test]
+fn strikes_and_loads_add_up() {
+    for list in 0..1 << 14 {
+        let (mut registers, mut taken, mut struck) = ([0; 16], 0, 0);
+        for n in 0..7 {
+            let command = (list >> (2 * n) & 3) as u8;
+            let before = registers;
+            let row = [&[0; 16][..], &[n + 1], &[0; 519]].concat();
+            step(&mut registers, command, &row);
+            taken += u8::from(registers[4] == n + 1);
+            struck += u8::from(command == STRIKE && registers[1] != before[1]);
+        }
+        assert_eq!(struck + (registers[1] & 1), taken, "{list:#x}");
     }
 }

@@ -4,6 +4,7 @@
 mod card;
 mod closed;
 mod files;
+mod head;
 mod refusals;
 mod rows;
 mod sections;
@@ -13,6 +14,7 @@ use crate::calls::Function;
 use crate::list::Case;
 use crate::record;
 use crate::rules;
+use head::Steps;
 use sections::Sections;
 use std::collections::{BTreeMap, BTreeSet};
 use std::path::Path;
@@ -20,13 +22,20 @@ use std::path::Path;
 const MOST_BYTES: u64 = 3_000_000;
 
 /// So many things are asked for: none may drop out because nothing looks for it.
-const ASKED: usize = 6_477;
+const ASKED: usize = 6_698;
 
 /// Where a thing must be seen, behind its name: anywhere, from states, or there and along walks from Open.
 type Needed = &'static [&'static str];
 const ANYWHERE: Needed = &[""];
 const FROM_STATES: Needed = &[", from states"];
 const BOTH: Needed = &[", from states", ", along walks"];
+
+/// What goes on from case to case.
+#[derive(Default)]
+struct Lists {
+    sections: Sections,
+    steps: Steps,
+}
 
 #[derive(Default)]
 struct Tally {
@@ -109,10 +118,10 @@ impl Tally {
 
 /// The report, or what is missing.
 pub fn report(dir: &Path) -> Result<String, String> {
-    let (mut tally, mut sections) = (asked(), Sections::default());
+    let (mut tally, mut lists) = (asked(), Lists::default());
     let cases = record::load(dir)?;
     for (i, case) in cases.iter().enumerate() {
-        see(&mut tally, &mut sections, case).map_err(|why| format!("cover: case {i}: {why}"))?;
+        see(&mut tally, &mut lists, case).map_err(|why| format!("cover: case {i}: {why}"))?;
     }
     let bytes = std::fs::metadata(dir.join(record::LIST)).map_or(0, |list| list.len());
     tally.prefix = "";
@@ -133,11 +142,11 @@ pub fn report(dir: &Path) -> Result<String, String> {
 
 /// The cases of those groups that show something which none before them did, and of the first so many.
 pub fn telling(groups: impl Iterator<Item = Vec<Case>>, first: usize) -> Vec<Case> {
-    let (mut tally, mut sections) = (asked(), Sections::default());
+    let (mut tally, mut lists) = (asked(), Lists::default());
     let is_telling = |(i, cases): &(usize, Vec<Case>)| {
         let before = tally.news;
         for case in cases {
-            see(&mut tally, &mut sections, case).expect("the judge keeps the rules");
+            see(&mut tally, &mut lists, case).expect("the judge keeps the rules");
         }
         *i < first || tally.news > before
     };
@@ -154,13 +163,14 @@ fn asked() -> Tally {
         refusals::needs,
         strikes::needs,
         closed::needs,
+        head::needs,
     ] {
         needs(&mut tally);
     }
     tally
 }
 
-fn see(tally: &mut Tally, sections: &mut Sections, case: &Case) -> Result<(), String> {
+fn see(tally: &mut Tally, lists: &mut Lists, case: &Case) -> Result<(), String> {
     let broken = rules::broken(&case.call);
     let (refusal, first) = (case.answer.refusal(), broken.first().map_or(0, |&(rule, _)| rule));
     let of_file = matches!(case.call.function, Function::Measure | Function::Read) && first == 0;
@@ -170,8 +180,13 @@ fn see(tally: &mut Tally, sections: &mut Sections, case: &Case) -> Result<(), St
     }
     if first > 0 {
         refusals::see(tally, case, &broken);
-        return if first == 14 { closed::see(tally, case) } else { Ok(()) };
+        return match case.call.function {
+            Function::HeadStep => lists.steps.refused(tally, case),
+            _ if first == 14 => closed::see(tally, case),
+            _ => Ok(()),
+        };
     }
+    let sections = &mut lists.sections;
     match case.call.function {
         Function::Measure | Function::Read => files::see(tally, case)?,
         Function::Open => sections.opened(tally, case),
@@ -179,6 +194,7 @@ fn see(tally: &mut Tally, sections: &mut Sections, case: &Case) -> Result<(), St
         Function::Strikes => strikes::see(tally, case, sections.gave(&case.call.slots[0]))?,
         Function::Line => refusals::see_line(tally, case),
         Function::IsClosed | Function::OpenClosed => closed::see(tally, case)?,
+        Function::HeadStep => lists.steps.see(tally, case, sections.gave(&case.call.slots[1]))?,
     }
     Ok(())
 }

@@ -1,4 +1,4 @@
-//! Refusals by rules 9 to 14 and by 255: each way to break them alone, and the order in which they are asked.
+//! Refusals by rules 9 to 15 and by 255: each way to break them alone, and the order in which they are asked.
 
 use super::Tally;
 use crate::calls::Function;
@@ -19,6 +19,10 @@ pub fn needs(tally: &mut Tally) {
         "open_closed by rule {}",
         ["9 before 10 before 14", "255 before 9 before 10 before 14"],
     );
+    tally.family(
+        "head_step by rule {}",
+        ["255", "15", "13", "255 before 15", "15 before 13"],
+    );
     tally.family("section by rule {}", ["9", "9 before 11", "9 before 12"]);
     tally.family("section by rule {}", ["11 before 12", "9 before 11 before 12"]);
     tally.family("section by rule {}", ["255", "255 before 9"]);
@@ -35,7 +39,8 @@ pub fn see(tally: &mut Tally, case: &Case, broken: &[(u8, &str)]) {
     // No room of the list has the bytes that so many rows need.
     for (rule, what, _) in rules::facts(call).into_iter().filter(|fact| fact.1 != "n above 65,535") {
         tally.family(&format!("rule {rule}: {{}}"), [what]);
-        if matches!(call.function, Function::IsClosed | Function::OpenClosed) {
+        let of_function = [Function::IsClosed, Function::OpenClosed, Function::HeadStep];
+        if of_function.contains(&call.function) {
             tally.family(&format!("{name} by rule {rule}: {{}}"), [what]);
         }
     }
