@@ -1,7 +1,7 @@
 /*
  * lomqashe.h - the row sheet of a Scream Tracker 3 tune
  *
- * Eight functions over numbers and bytes, in the archive target/staticlib/liblomqashe.a that
+ * Nine functions over numbers and bytes, in the archive target/staticlib/liblomqashe.a that
  * `rt staticlib lomqashe` writes. Each result, and every byte written, is proved equal to a
  * definition that the function's contract in crates/lomqashe/src/lib.rt names, for all inputs: no
  * length and no value is a mistake that a function doesn't answer. They keep nothing between calls,
@@ -48,12 +48,14 @@
  *     12       n is above 65,535, or the output shorter than 536 * n bytes
  *     13       the record is not 536 bytes, or the output has under 32 (strikes) or 64 (line)
  *     14       the tune is not closed, as lomqashe_is_closed() says it
+ *     15       the registers are not 16 bytes, their byte 2 or 3 is not 0, or a bit of the status
+ *              other than 0, 1 and 7 is set
  *     255      counts, opening or state is not LOMQASHE_COUNTS_SIZE, _OPENING_SIZE or _STATE_SIZE
- *              bytes long
+ *              bytes long, or the command is above 255
  *
- * 255 is tried first, then the numbers that a function names, in their order. A call that refuses
- * leaves all memory as it was. Bits 0 to 23, LOMQASHE_GIVEN(), are what a call that did not refuse
- * gives; they are 0 where it did.
+ * 255 is tried first, then the numbers that a function names, in the order in which it names them.
+ * A call that refuses leaves all memory as it was. Bits 0 to 23, LOMQASHE_GIVEN(), are what a call
+ * that did not refuse gives; they are 0 where it did.
  */
 #ifndef LOMQASHE_H
 #define LOMQASHE_H
@@ -68,7 +70,7 @@ extern "C" {
 #define LOMQASHE_REFUSAL(result) ((uint32_t)(result) >> 24)
 #define LOMQASHE_GIVEN(result) ((uint32_t)(result) & 0xffffff)
 
-/* The refusal where a length is wrong. */
+/* The refusal where a length is wrong, or a command no byte. */
 #define LOMQASHE_WRONG_LENGTH 255
 
 #define LOMQASHE_COUNTS_SIZE 12
@@ -83,6 +85,15 @@ extern "C" {
 #define LOMQASHE_RECORD_SIZE 536
 #define LOMQASHE_STRIKES_SIZE 32
 #define LOMQASHE_LINE_SIZE 64
+
+/* The punch head: its registers, its commands, and the bits of its status. */
+#define LOMQASHE_REGISTERS_SIZE 16
+#define LOMQASHE_HEAD_LOAD 1
+#define LOMQASHE_HEAD_STRIKE 2
+#define LOMQASHE_HEAD_CLEAR 3
+#define LOMQASHE_HEAD_LOADED 0x01
+#define LOMQASHE_HEAD_LATE 0x02
+#define LOMQASHE_HEAD_INTERRUPT 0x80
 
 /*
  * lomqashe_measure() counts what an S3M file holds.
@@ -251,6 +262,30 @@ uint32_t lomqashe_strikes(const uint8_t *record, size_t record_size,
  */
 uint32_t lomqashe_line(const uint8_t *record, size_t record_size,
                        uint8_t *out, size_t out_size);
+
+/*
+ * lomqashe_head_step() does what the table's punch head does on a command.
+ *
+ * registers is 16 bytes, which are read and overwritten; a head starts with all of them 0:
+ *
+ *     0 the last command, 1 status (bit 0 loaded, bit 1 late, bit 7 interrupt), 2-3 are 0,
+ *     4-7 mask, 8-15 position in micrometres
+ *
+ * command is a byte's number. It is put into byte 0, and then
+ *
+ *     1 load     takes the record's strike mask and start as mask and position and sets loaded;
+ *                where loaded is set it sets late instead, and the row is not taken
+ *     2 strike   clears loaded and sets interrupt; where loaded is not set it does nothing more
+ *     3 clear    clears late and interrupt
+ *
+ * and any other does nothing more. record is looked at by a load alone, loaded or not; for others
+ * it may be of any length, and NULL with 0. From 16 bytes that are 0 on, whatever the commands, the
+ * strikes done and one more where loaded is set are as many as the loads that were taken.
+ *
+ * Gives 0. Refuses with 255 (command), 15, and on a load 13.
+ */
+uint32_t lomqashe_head_step(uint8_t *registers, size_t registers_size, uint32_t command,
+                            const uint8_t *record, size_t record_size);
 
 #ifdef __cplusplus
 }

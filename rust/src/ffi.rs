@@ -67,6 +67,13 @@ mod raw {
         ) -> u32;
         pub fn lomqashe_strikes(row: *const u8, row_len: usize, out: *mut u8, out_len: usize) -> u32;
         pub fn lomqashe_line(row: *const u8, row_len: usize, out: *mut u8, out_len: usize) -> u32;
+        pub fn lomqashe_head_step(
+            registers: *mut u8,
+            registers_len: usize,
+            command: u32,
+            record: *const u8,
+            record_len: usize,
+        ) -> u32;
     }
 }
 
@@ -198,6 +205,19 @@ pub fn line(record: &[u8], out: &mut [u8]) -> Result<u32, Refusal> {
     answer(unsafe { raw::lomqashe_line(record.as_ptr(), record.len(), out.as_mut_ptr(), out.len()) })
 }
 
+/// A load alone looks at the record.
+pub fn head_step(registers: &mut [u8], command: u32, record: &[u8]) -> Result<u32, Refusal> {
+    answer(unsafe {
+        raw::lomqashe_head_step(
+            registers.as_mut_ptr(),
+            registers.len(),
+            command,
+            record.as_ptr(),
+            record.len(),
+        )
+    })
+}
+
 #[cfg(test)]
 mod tests {
     use super::*;
@@ -297,6 +317,53 @@ mod tests {
         }
         assert_eq!(number(line(&[0; 536], &mut [0; 63])), 13);
         assert_eq!(strikes(&[0; 536], &mut [0; 32]), Ok(0));
+    }
+
+    /// What a step is refused by, which leaves the registers as they were.
+    fn refused_step(registers: &[u8], command: u32, record: &[u8]) -> u8 {
+        let mut lent = registers.to_vec();
+        let rule = number(head_step(&mut lent, command, record));
+        assert_eq!(lent, registers);
+        rule
+    }
+
+    /// Registers with UNTOUCHED where any byte may stand, and this status.
+    fn registers(status: u8) -> [u8; 16] {
+        let mut registers = [UNTOUCHED; 16];
+        registers[1..4].copy_from_slice(&[status, 0, 0]);
+        registers
+    }
+
+    #[test]
+    fn a_command_above_255_is_told_first() {
+        for command in [256, 257, 258, 259, 65_537, 1 << 24 | 1, u32::MAX] {
+            for status in [0, 1, 0x83, 4] {
+                assert_eq!(refused_step(&registers(status), command, &[0; 536]), 255);
+            }
+            assert_eq!(refused_step(&[], command, &[]), 255);
+        }
+    }
+
+    #[test]
+    fn broken_registers_are_rule_15_and_then_records_of_a_load_13() {
+        for command in [0, 1, 2, 3, 255] {
+            for length in [0, 1, 15, 17, 536] {
+                assert_eq!(refused_step(&vec![0; length], command, &[0; 536]), 15);
+                assert_eq!(refused_step(&vec![0; length], command, &[]), 15);
+            }
+            for bit in 2..7 {
+                assert_eq!(refused_step(&registers(1 << bit), command, &[]), 15);
+            }
+        }
+        for length in [0, 20, 535, 537] {
+            for status in [0, 1, 2, 3, 0x80, 0x81, 0x82, 0x83] {
+                let record = vec![0; length];
+                assert_eq!(refused_step(&registers(status), 1, &record), 13);
+                for command in [0, 2, 3, 4, 255] {
+                    assert_eq!(head_step(&mut registers(status), command, &record), Ok(0));
+                }
+            }
+        }
     }
 
     #[test]

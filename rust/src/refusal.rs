@@ -3,7 +3,7 @@
 use std::error::Error;
 use std::fmt;
 
-/// The rule that a file, a tune or a state breaks, by its number in document 01 or 02.
+/// The rule that a file, a tune, a state or a punch head breaks, by its number in document 01 or 02.
 ///
 /// ```
 /// let refusal = lomqashe::Tune::read(b"no tune", 60_000).unwrap_err();
@@ -14,7 +14,7 @@ use std::fmt;
 pub struct Refusal(u8);
 
 impl Refusal {
-    /// A length at the library's border is wrong: no rule of a document.
+    /// A length at the library's border is wrong, or a command no byte: no rule of a document.
     pub(crate) const WRONG_LENGTH: Refusal = Refusal(255);
 
     /// The refusal of a number; none for 0.
@@ -22,7 +22,7 @@ impl Refusal {
         (number != 0).then_some(Refusal(number))
     }
 
-    /// 1 to 14, or 255 where a length at the library's border is wrong.
+    /// 1 to 15, or 255 where a length at the library's border is wrong or a command is above 255.
     pub fn number(self) -> u8 {
         self.0
     }
@@ -48,7 +48,11 @@ impl Refusal {
             12 => "more than 65,535 rows are asked for, or the output is too short for them",
             13 => "the record is not 536 bytes, or the output is too short for its strikes or line",
             14 => "tune not closed",
-            _ => "a length at the library's border is wrong",
+            15 => {
+                "the punch head's registers are not 16 bytes, their byte 2 or 3 is not 0, or a status bit other than 0, \
+                 1 and 7 is set"
+            }
+            _ => "a length at the library's border is wrong, or a command is above 255",
         }
     }
 }

@@ -1,8 +1,8 @@
 //! What Rust programs expect of types.
 
 use lomqashe::{
-    Breach, CellPlace, ChannelOpening, Counts, CutSection, Opening, Record, Refusal, Repeat, Rows, Section, Sections,
-    State, Strikes, Tune, Voice,
+    Breach, CellPlace, ChannelOpening, Counts, CutSection, HeadStatus, Opening, PunchHead, Record, Refusal, Repeat,
+    Rows, Section, Sections, State, Strikes, Tune, Voice,
 };
 use std::fmt::{Debug, Display};
 use std::hash::Hash;
@@ -22,7 +22,9 @@ fn types_have_the_common_traits() {
     value::<ChannelOpening>();
     value::<Counts>();
     value::<CutSection>();
+    value::<HeadStatus>();
     value::<Opening>();
+    value::<PunchHead>();
     value::<Record>();
     value::<Refusal>();
     value::<Repeat>();
@@ -31,9 +33,11 @@ fn types_have_the_common_traits() {
     value::<Strikes>();
     value::<Tune>();
     value::<Voice>();
+    copied::<HeadStatus>();
     copied::<Strikes>();
     iterator::<Rows<'static>>();
     iterator::<Sections<'static>>();
+    bytes::<PunchHead>();
     bytes::<Record>();
     bytes::<State>();
 }
@@ -65,7 +69,10 @@ fn bytes_of_another_length_are_refused() {
     assert_eq!(Record::try_from(&[7; 536][..]).unwrap().as_ref(), [7; 536]);
     for length in [0, 2_623, 2_625] {
         let refusal = State::try_from(&vec![0; length][..]).unwrap_err();
-        assert_eq!(refusal.to_string(), "a length at the library's border is wrong");
+        assert_eq!(
+            refusal.to_string(),
+            "a length at the library's border is wrong, or a command is above 255"
+        );
     }
     assert_eq!(State::try_from(&[7; 2_624][..]).unwrap().as_ref(), [7; 2_624]);
 }
