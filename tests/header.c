@@ -1,6 +1,6 @@
 /* The header and the archive alone. Prints the sheet of the S3M file on standard input. With the argument `null` it tries
- * NULL with length 0 everywhere, with `strikes` their order, with `closed` whether that file is closed,
- * with `stack` how much stack the calls on that file take. */
+ * NULL with length 0 everywhere, with `strikes` their order, with `closed` whether that file is closed, with `head` the
+ * punch head on its rows, with `stack` how much stack the calls on that file take. */
 #define _GNU_SOURCE
 #include "lomqashe.h"
 #include <math.h>
@@ -14,6 +14,7 @@
 
 static uint8_t file[65536], counts[LOMQASHE_COUNTS_SIZE], opening[LOMQASHE_OPENING_SIZE], state[LOMQASHE_STATE_SIZE];
 static uint8_t records[ROWS * LOMQASHE_RECORD_SIZE], line[LOMQASHE_LINE_SIZE], struck[LOMQASHE_STRIKES_SIZE];
+static uint8_t registers[LOMQASHE_REGISTERS_SIZE];
 static size_t file_size, n_orders, n_samples, n_cells;
 static uint8_t *orders, *samples, *cells;
 static uint32_t answer;
@@ -73,6 +74,16 @@ static void list_strikes(void)
 static void write_line(void)
 {
     answer = lomqashe_line(records, LOMQASHE_RECORD_SIZE, line, sizeof line);
+}
+
+static void step(uint32_t command, const uint8_t *record)
+{
+    answer = lomqashe_head_step(registers, sizeof registers, command, record, record ? LOMQASHE_RECORD_SIZE : 0);
+}
+
+static void load_row(void)
+{
+    step(LOMQASHE_HEAD_LOAD, records);
 }
 
 /* Tables of the sizes that the counts ask for; NULL where that is 0. */
@@ -177,6 +188,11 @@ static void null_refusals(void)
     expect_refusal(lomqashe_strikes(records, LOMQASHE_RECORD_SIZE, NULL, 0), 13, "strikes into NULL");
     expect_refusal(lomqashe_line(NULL, 0, line, sizeof line), 13, "line of NULL");
     expect_refusal(lomqashe_line(records, LOMQASHE_RECORD_SIZE, NULL, 0), 13, "line into NULL");
+    expect_refusal(lomqashe_head_step(NULL, 0, LOMQASHE_HEAD_CLEAR, NULL, 0), 15, "head_step on NULL");
+    expect_refusal(lomqashe_head_step(NULL, 0, 256, NULL, 0), 255, "head_step on NULL by no byte");
+    expect_refusal(lomqashe_head_step(registers, sizeof registers, LOMQASHE_HEAD_LOAD, NULL, 0), 13, "load of NULL");
+    step(LOMQASHE_HEAD_CLEAR, NULL);
+    check(answer == 0 && registers[0] == LOMQASHE_HEAD_CLEAR, "clear with NULL");
 }
 
 /* Struck channels by frequency: equal ones by number, those that are not a number last. Channel 9 on are not struck. */
@@ -220,6 +236,74 @@ static void closed_tunes(void)
     give_tables_back();
 }
 
+/* The registers are these: command, status, and mask and start of a record. */
+static void expect_head(uint8_t command, uint8_t status, const uint8_t *record, const char *what)
+{
+    check(answer == 0 && registers[0] == command && registers[1] == status, what);
+    check(registers[2] == 0 && registers[3] == 0, what);
+    check(memcmp(registers + 4, record + 16, 4) == 0 && memcmp(registers + 8, record + 8, 8) == 0, what);
+}
+
+/* A step on registers with another byte: refused, and nothing is written. */
+static void expect_head_refusal(size_t at, uint8_t byte, uint32_t command, size_t record_size, uint32_t number)
+{
+    uint8_t before[LOMQASHE_REGISTERS_SIZE], kept = registers[at];
+    registers[at] = byte;
+    memcpy(before, registers, sizeof registers);
+    expect_refusal(lomqashe_head_step(registers, sizeof registers, command, records, record_size), number, "head_step");
+    check(memcmp(before, registers, sizeof registers) == 0, "the registers where head_step refuses");
+    registers[at] = kept;
+}
+
+static void head_refusals(void)
+{
+    for (uint32_t command = 0; command < 5; command++) {
+        for (unsigned bit = 2; bit < 7; bit++)
+            expect_head_refusal(1, (uint8_t)(1 << bit), command, 0, 15);
+        expect_head_refusal(2, 1, command, LOMQASHE_RECORD_SIZE, 15);
+        expect_head_refusal(3, 0x80, command, LOMQASHE_RECORD_SIZE, 15);
+        expect_head_refusal(2, 1, command + 256, 0, 255);
+        expect_head_refusal(0, 0, command + 256, LOMQASHE_RECORD_SIZE, 255);
+    }
+    for (uint8_t status = 0; status < 4; status++) {
+        expect_head_refusal(1, status, LOMQASHE_HEAD_LOAD, LOMQASHE_RECORD_SIZE - 1, 13);
+        expect_head_refusal(1, status, LOMQASHE_HEAD_LOAD, LOMQASHE_RECORD_SIZE + 1, 13);
+    }
+    expect_refusal(lomqashe_head_step(registers, 15, LOMQASHE_HEAD_LOAD, records, 0), 15, "15 registers");
+    expect_refusal(lomqashe_head_step(records, 17, LOMQASHE_HEAD_STRIKE, NULL, 0), 15, "17 registers");
+}
+
+/* The file's first two rows: the second is late, and taken behind the strike. */
+static void punch_head(void)
+{
+    const uint8_t *first = records, *second = records + LOMQASHE_RECORD_SIZE;
+    measure();
+    lend_tables();
+    read_tables();
+    open_tune();
+    section();
+    check(LOMQASHE_ROWS(answer) > 1 && memcmp(first + 8, second + 8, 12) != 0, "two rows");
+    step(LOMQASHE_HEAD_LOAD, first);
+    expect_head(LOMQASHE_HEAD_LOAD, LOMQASHE_HEAD_LOADED, first, "load");
+    step(LOMQASHE_HEAD_LOAD, second);
+    expect_head(LOMQASHE_HEAD_LOAD, LOMQASHE_HEAD_LOADED | LOMQASHE_HEAD_LATE, first, "late load");
+    step(LOMQASHE_HEAD_STRIKE, NULL);
+    expect_head(LOMQASHE_HEAD_STRIKE, LOMQASHE_HEAD_LATE | LOMQASHE_HEAD_INTERRUPT, first, "strike");
+    step(LOMQASHE_HEAD_LOAD, second);
+    expect_head(LOMQASHE_HEAD_LOAD, LOMQASHE_HEAD_LOADED | LOMQASHE_HEAD_LATE | LOMQASHE_HEAD_INTERRUPT, second,
+                "load again");
+    step(LOMQASHE_HEAD_CLEAR, NULL);
+    expect_head(LOMQASHE_HEAD_CLEAR, LOMQASHE_HEAD_LOADED, second, "clear");
+    head_refusals();
+    step(LOMQASHE_HEAD_STRIKE, NULL);
+    step(LOMQASHE_HEAD_CLEAR, NULL);
+    step(LOMQASHE_HEAD_STRIKE, NULL);
+    expect_head(LOMQASHE_HEAD_STRIKE, 0, second, "strike where nothing is loaded");
+    step(255, NULL);
+    expect_head(255, 0, second, "another command");
+    give_tables_back();
+}
+
 #define STACK 65536
 #define MOST_STACK 32768
 #define PAINT 0xa5
@@ -246,7 +330,8 @@ static size_t stack_of(void (*call)(void))
 /* The second section starts where the first stopped. */
 static void stacks(void)
 {
-    void (*calls[])(void) = {read_tables, is_closed, open_closed, open_tune, section, section, list_strikes, write_line};
+    void (*calls[])(void) = {read_tables, is_closed,    open_closed, open_tune, section,
+                             section,     list_strikes, write_line,  load_row};
     check(stack_of(measure) <= MOST_STACK, "stack of measure");
     lend_tables();
     for (size_t i = 0; i < sizeof calls / sizeof *calls; i++) {
@@ -265,6 +350,8 @@ int main(int argc, char **argv)
         strikes_in_order();
     } else if (strcmp(argv[1], "closed") == 0) {
         closed_tunes();
+    } else if (strcmp(argv[1], "head") == 0) {
+        punch_head();
     } else if (strcmp(argv[1], "stack") == 0) {
         stacks();
     } else {
