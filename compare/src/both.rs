@@ -67,6 +67,7 @@ fn place(function: Function, slot: usize, at: usize) -> String {
         }
         (Function::Open | Function::OpenClosed, 4) | (Function::Section, 3) => format!("byte {at} of the state"),
         (Function::Section, 4) => format!("byte {} of record {}", at % RECORD_BYTES, at / RECORD_BYTES),
+        (Function::HeadStep, 0) => format!("register {at}"),
         _ => format!("byte {at} of slot {slot}"),
     }
 }

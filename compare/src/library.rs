@@ -1,4 +1,4 @@
-//! The library's eight functions, called on the bytes of a call.
+//! The library's nine functions, called on the bytes of a call.
 
 use oracle::calls::{Answer, Call, Function};
 
@@ -35,6 +35,7 @@ mod raw {
             e: *mut u8,
             el: usize,
         ) -> u32;
+        pub fn lomqashe_head_step(a: *mut u8, al: usize, command: u32, b: *const u8, bl: usize) -> u32;
         pub fn lomqashe_is_closed(a: *const u8, al: usize, b: *const u8, bl: usize, c: *const u8, cl: usize) -> u32;
         pub fn lomqashe_open_closed(
             a: *const u8,
@@ -80,6 +81,7 @@ pub fn answer(call: &Call) -> Answer {
             Function::Line => raw::lomqashe_line(a, al, b, bl),
             Function::IsClosed => raw::lomqashe_is_closed(a, al, b, bl, c, cl),
             Function::OpenClosed => raw::lomqashe_open_closed(a, al, b, bl, c, cl, d, dl, e, el),
+            Function::HeadStep => raw::lomqashe_head_step(a, al, call.number, b, bl),
         }
     };
     Answer { number, slots }

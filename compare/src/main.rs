@@ -5,6 +5,7 @@ mod both;
 mod cells;
 mod closed;
 mod files;
+mod head;
 mod library;
 mod pitch;
 mod recorded;
@@ -55,6 +56,10 @@ fn compare(seed: u64, rows: u64) -> Result<(), String> {
     println!(
         "closed: {}, 0 differences",
         closed::compare(&mut Random::new(seed ^ 0xC105), rows / 100)?
+    );
+    println!(
+        "head: {}, 0 differences",
+        head::compare(&mut Random::new(seed ^ 0x4EAD), rows / 100)?
     );
     println!(
         "refusals: {}, 0 differences",
