@@ -1,5 +1,6 @@
 // The functions by their numbers in the list: an arm with the call and an arm with the name for each.
 use libc::STDOUT_FILENO;
+use lomqashe::lomqashe_head_step;
 use lomqashe::lomqashe_is_closed;
 use lomqashe::lomqashe_line;
 use lomqashe::lomqashe_measure;
@@ -31,6 +32,7 @@ pub fn call(
         6 => lomqashe_line(s0, s1),
         7 => lomqashe_is_closed(s0, s1, s2),
         8 => lomqashe_open_closed(s0, s1, s2, s3, s4),
+        9 => lomqashe_head_step(s0, number, s1),
         _ => UNKNOWN,
     }
 }
@@ -50,6 +52,7 @@ pub fn print_name(function: usize) -> bool {
         6 => print(b"line"),
         7 => print(b"is_closed"),
         8 => print(b"open_closed"),
+        9 => print(b"head_step"),
         _ => false,
     }
 }
