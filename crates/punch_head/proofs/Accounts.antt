@@ -121,7 +121,7 @@ module _ (a b : Action) where
       by (inr l) = l
 
 -- ---- from sixteen zero bytes
-zeros-sound : Sound sixteenZeros
+pub zeros-sound : Sound sixteenZeros
 zeros-sound = record { kept = record { size = refl; second = refl; third = refl; others = refl }; byte = omega arith }
 
 -- steps that were made

@@ -1,3 +1,4 @@
 pub mod Registers
 pub mod Steps
 pub mod Histories
+pub mod Alike
