@@ -7,3 +7,4 @@ pub mod MadeCalls
 pub mod Theorem
 pub mod Example
 pub mod ClosedTunes
+pub mod Heads

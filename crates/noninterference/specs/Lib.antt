@@ -4,3 +4,4 @@ pub mod Machines
 pub mod Kept
 pub mod Made
 pub mod ClosedTunes
+pub mod Heads
