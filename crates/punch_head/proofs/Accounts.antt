@@ -3,15 +3,14 @@ use mathlib.Core.Path.{_≡_, refl, sym, ap, _∙_, subst⁻¹}
 use mathlib.Core.Bool.{Bool, true, false}
 use mathlib.Core.List.{List, [], _∷_, _++_}
 use mathlib.Core.Logic.{_⊎_, inl, inr}
-use mathlib.Core.Option.{Option}
-use Prim.Native.Nat.{ℕ, _+_, _<_}
+use Prim.Native.Nat.{ℕ, _+_}
 use native.Mathlib.Nat.{add-zero, zero-add}
 use native.Mathlib.Omega.{arith}
 use Rattle.laws.specs.Choice.{pick}
 use Rattle.laws.specs.Refusals.{Said}
 use Rattle.laws.proofs.Picks.{not-both}
 use Rattle.tune.specs.Numbers.{flag}
-use Rattle.punch_head.specs.Registers.{loaded, late, interrupt, maskBytes, positionBytes, rowMask, rowStart, registersRule}
+use Rattle.punch_head.specs.Registers.{loaded, late, interrupt, maskBytes, positionBytes, rowMask, rowStart}
 use Rattle.punch_head.specs.Steps.{stepSays, stepRegisters}
 use Rattle.punch_head.specs.Histories.{Call, Made, steps, Promised, behind, did, times, Since, sixteenZeros, Accounted}
 use Rattle.punch_head.specs.declared.actions.Action.{Action}

@@ -1,13 +1,13 @@
 -- What one step does to what the registers say. Assumes nothing.
 use mathlib.Core.Path.{_≡_, refl, sym, ap, _∙_}
 use mathlib.Core.Bool.{Bool, true, false, _&&_}
-use mathlib.Core.List.{List, [], _∷_, _++_}
+use mathlib.Core.List.{List, _∷_, _++_}
 use mathlib.Core.Option.{Option, none, some}
 use Prim.Native.Nat.{ℕ, _+_, _<_}
 use native.Mathlib.Omega.{arith}
 use borrow.Author.Tests.{eqb-true, ltb-true}
 use lib.Dec.{eqb, ltb}
-use lib.ListN.{length, getD, take, drop, replicate, length-append}
+use lib.ListN.{length, take, drop, replicate, length-append}
 use lib.Seq.{take-all, take-at, drop-at}
 use Rattle.laws.specs.Choice.{pick}
 use Rattle.laws.specs.Entries.{every}
@@ -15,7 +15,7 @@ use Rattle.laws.specs.Masks.{bitOf}
 use Rattle.laws.proofs.Picks.{chain, and-true}
 use Rattle.laws.proofs.Tables.{at}
 use Rattle.tune.specs.Numbers.{flag}
-use Rattle.punch_head.specs.Registers.{isOn, otherBits, statusOf, loaded, late, interrupt, maskBytes, positionBytes, rowMask, rowStart, headRule}
+use Rattle.punch_head.specs.Registers.{otherBits, statusOf, loaded, late, interrupt, maskBytes, positionBytes, rowMask, rowStart, headRule}
 use Rattle.punch_head.specs.Steps.{actionOf, numberOf, same, statusBy, takenBy, registersBy, stepSays, stepRegisters}
 use Rattle.punch_head.specs.Histories.{did}
 use Rattle.punch_head.specs.declared.actions.Action.{Action}

@@ -1,7 +1,7 @@
 -- The punch head's step (02, 2026-05): what it does and says, and the registers behind it. Assumes nothing.
 use Prim.Native.Nat.{ℕ}
 use mathlib.Core.Bool.{Bool}
-use mathlib.Core.List.{List, [], _∷_, _++_}
+use mathlib.Core.List.{List, _∷_, _++_}
 use mathlib.Core.Option.{none, some}
 use lib.Dec.{eqb}
 use Rattle.laws.specs.Choice.{pick}

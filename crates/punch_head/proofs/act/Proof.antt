@@ -1,8 +1,7 @@
 -- `punch_head::act` meets its contract. Assumes nothing.
-use mathlib.Core.Path.{_≡_, sym, ap, _∙_}
+use mathlib.Core.Path.{sym, ap, _∙_}
 use Prim.Native.Nat.{ℕ}
 use native.Mathlib.Omega.{arith}
-use denote.Ref.{now}
 use borrow.Author.Needs.{needs}
 use lib.ListN.{length-set}
 use Rattle.punch_head.specs.Steps.{actionOf}

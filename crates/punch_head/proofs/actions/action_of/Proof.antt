@@ -1,5 +1,4 @@
 -- `punch_head::actions::action_of` meets its contract. Assumes nothing.
-use borrow.Author.Needs.{needs}
 use borrow.Author.Tests.{eq-eqb, ne-eqb}
 use Rattle.punch_head.specs.Steps.{actionOf}
 use Rattle.punch_head.proofs.actions.action_of.Statement.{statement}

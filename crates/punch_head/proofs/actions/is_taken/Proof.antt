@@ -1,5 +1,4 @@
 -- `punch_head::actions::is_taken` meets its contract. Assumes nothing.
-use mathlib.Core.Path.{sym, ap}
 use borrow.Author.Needs.{needs}
 use Rattle.punch_head.specs.Steps.{numberOf}
 use Rattle.punch_head.proofs.actions.is_taken.Statement.{statement}

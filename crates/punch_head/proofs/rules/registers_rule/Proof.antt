@@ -1,5 +1,4 @@
 -- `punch_head::rules::registers_rule` meets its contract. Assumes nothing.
-use mathlib.Core.Path.{sym}
 use borrow.Author.Needs.{needs}
 use borrow.Author.Tests.{eq-eqb, ne-eqb}
 use Rattle.punch_head.specs.Registers.{registersRule}

@@ -1,5 +1,4 @@
 -- `punch_head::status::status_by` meets its contract. Assumes nothing.
-use mathlib.Core.Path.{_≡_, sym, ap, _∙_}
 use borrow.Author.Needs.{needs}
 use Rattle.punch_head.specs.Steps.{statusBy}
 use Rattle.punch_head.proofs.Masks.{masks}

@@ -1,5 +1,5 @@
 -- `punch_head::witness::two_steps` meets its contract. Assumes nothing.
-use mathlib.Core.List.{List, [], _∷_}
+use mathlib.Core.List.{[], _∷_}
 use borrow.Author.Needs.{needs}
 use Rattle.punch_head.specs.Histories.{Made, Promised, behind, sixteenZeros, Accounted}
 use Rattle.punch_head.proofs.Accounts.{accounted}
