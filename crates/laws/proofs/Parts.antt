@@ -39,11 +39,13 @@ module _ {X : Type 0} where
       let i : a ≤ a + k = omega arith in
       rw (f, take-append-le a (take (a + k) l) (p ++ drop (a + k + m) l) b, take-take a (a + k) l i, drop-at (take (a + k) l) (p ++ drop (a + k + m) l) (a + k) n, append-assoc)
 
+  -- n elements from a on, of a list that has them
+  pub cut-length : (n a : ℕ) (l : List X) → a + n ≤ length l → length (take n (drop a l)) ≡ n
+  cut-length n a l h = let e = length-drop a l in length-take-le n (drop a l) (omega arith)
+
   -- how long a lent part is
   pub part-size : (l : List X) (a m : ℕ) → a + m ≤ length l → length (take (a + m - a) (drop a l)) ≡ m
-  part-size l a m h =
-      let k : m ≤ length (drop a l) = omega (arith, length-drop a l) in
-      rw add-sub-cancel-left (length-take-le m (drop a l) k)
+  part-size l a m h = rw add-sub-cancel-left (cut-length m a l h)
 
   -- a part written leaves the length
   pub part-length : (l p : List X) (a m : ℕ) → a + m ≤ length l → length p ≡ m → length (take a l ++ (p ++ drop (a + m) l)) ≡ length l

@@ -1,12 +1,12 @@
 -- Every 2,624 bytes are a state of the Rattle types, which is written and read as the same. Assumes nothing.
-use Prim.Native.Nat.{ℕ, _+_, _*_, _<_, _≤_}
-use mathlib.Core.Path.{_≡_, subst, subst⁻¹}
+use Prim.Native.Nat.{ℕ, _+_, _*_, _<_}
+use mathlib.Core.Path.{_≡_, subst}
 use mathlib.Core.List.{List}
 use native.Mathlib.Omega.{arith}
 use lib.Ieee.{binary32, binary64}
 use lib.Ieee.Bits.{ofBits-fits}
-use lib.ListN.{length, take, drop, length-drop}
-use lib.Seq.{length-take-le}
+use lib.ListN.{length, take, drop}
+use Rattle.laws.proofs.Parts.{cut-length}
 use Rattle.laws.proofs.Pieces.{length-tabulate, tabulate-each}
 use Rattle.tune.specs.Numbers.{littleAt, Bytes}
 use Rattle.tune.proofs.Little.{little-small}
@@ -15,9 +15,6 @@ use Rattle.lomqashe.specs.States.{pathOf, stateBytes, stateOf}
 use Rattle.lomqashe.specs.Typed.{TypedChannel, Typed}
 use Rattle.lomqashe.proofs.StateKept.{state-kept}
 
-part-length : (n at : ℕ) (s : List ℕ) → at + n ≤ length s → length (take n (drop at s)) ≡ n
-part-length n at s h = length-take-le n (drop at s) (subst⁻¹ (λ (m : ℕ). n ≤ m) (length-drop at s) (omega arith))
-
 channel-typed : (s : List ℕ) → length s ≡ 80 → TypedChannel (channelOf s)
 unfolding channelOf
 channel-typed s h =
@@ -25,7 +22,7 @@ channel-typed s h =
       frequency = ofBits-fits binary32 (littleAt 4 s 0);
       target = ofBits-fits binary32 (littleAt 4 s 4);
       position = ofBits-fits binary64 (littleAt 8 s 8);
-      memory = part-length 32 48 s (omega (arith, h));
+      memory = cut-length 32 48 s (omega (arith, h));
     }
 
 -- the state that 2,624 bytes say
@@ -36,9 +33,9 @@ read-typed s h n =
       rate = little-small 4 s 16 h;
       start = little-small 8 s 24 h;
       remainder = little-small 2 s 20 h;
-      infos = part-length 32 32 s (omega (arith, n));
+      infos = cut-length 32 32 s (omega (arith, n));
       count = length-tabulate 32 (λ i. channelOf (take 80 (drop (64 + i * 80) s)));
-      each = λ d k b. tabulate-each TypedChannel 32 (λ i. channelOf (take 80 (drop (64 + i * 80) s))) (λ k b. channel-typed (take 80 (drop (64 + k * 80) s)) (part-length 80 (64 + k * 80) s (omega (arith, n, b)))) d k (subst (λ (m : ℕ). k < m) (length-tabulate 32 (λ i. channelOf (take 80 (drop (64 + i * 80) s)))) b);
+      each = λ d k b. tabulate-each TypedChannel 32 (λ i. channelOf (take 80 (drop (64 + i * 80) s))) (λ k b. channel-typed (take 80 (drop (64 + k * 80) s)) (cut-length 80 (64 + k * 80) s (omega (arith, n, b)))) d k (subst (λ (m : ℕ). k < m) (length-tabulate 32 (λ i. channelOf (take 80 (drop (64 + i * 80) s)))) b);
     }
 
 -- so it stays the same, written and read

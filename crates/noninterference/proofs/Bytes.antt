@@ -1,12 +1,13 @@
 -- Where a record's parts stand in its bytes. Assumes nothing.
 use Prim.Native.Nat.{ℕ, _+_, _*_, _^_, _<_}
-use mathlib.Core.Path.{_≡_, sym, ap, _∙_}
+use mathlib.Core.Path.{_≡_, ap, _∙_}
 use mathlib.Core.List.{List, _∷_, _++_, append-assoc}
 use native.Mathlib.Omega.{arith}
-use lib.ListN.{length, getD, take, drop}
-use lib.Seq.{take-at, getD-take, getD-drop}
+use lib.ListN.{length, getD, take}
+use lib.Seq.{take-at}
 use Rattle.laws.specs.Masks.{bitOf}
 use Rattle.tune.specs.Numbers.{littleAt, bytesOf, flag}
+use Rattle.tune.proofs.Little.{little-cut}
 use Rattle.row_path.specs.Card.{lengthOf}
 use Rattle.row_path.specs.declared.machine.Entered.{Entered}
 use Rattle.channel.specs.declared.state.Channel.{Channel}
@@ -59,7 +60,4 @@ module _ (e : Entered) (g strikes : ℕ) (cs : List Channel) where
 -- a channel's frequency stands in its first bytes
 pub frequency-in : (r : List ℕ) (k : ℕ) → frequencyBits r k ≡ littleAt 4 (channelIn k r) 0
 unfolding channelIn
-frequency-in r k = λ i. 0 + byte 0 (omega arith) i * 256 ^ 0 + byte 1 (omega arith) i * 256 ^ 1 + byte 2 (omega arith) i * 256 ^ 2 + byte 3 (omega arith) i * 256 ^ 3
-  where
-    byte : (n : ℕ) → n < 16 → getD r (24 + 16 * k + n) 0 ≡ getD (take 16 (drop (24 + 16 * k) r)) n 0
-    byte n h = sym (getD-take 16 (drop (24 + 16 * k) r) n 0 h ∙ getD-drop (24 + 16 * k) r n 0)
+frequency-in r k = little-cut 4 16 r (24 + 16 * k) (omega arith)

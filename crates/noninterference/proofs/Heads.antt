@@ -6,8 +6,9 @@ use mathlib.Core.List.{List, [], _∷_, _++_, map, append-assoc, map-append}
 use native.Mathlib.Omega.{arith}
 use borrow.Author.Tests.{ltb-true, ltb-false}
 use lib.Dec.{T, ltb}
-use lib.ListN.{length, getD, take, drop, length-map, length-drop, List·getD-eq-default}
+use lib.ListN.{length, getD, take, drop, length-map, List·getD-eq-default}
 use lib.Seq.{take-add, take-at, drop-at, length-take-le}
+use Rattle.laws.proofs.Parts.{cut-length}
 use Rattle.section.specs.declared.state.Opened.{Opened}
 use Rattle.section.specs.Tables.{Tune}
 use Rattle.section.specs.Walk.{voicesOf}
@@ -44,7 +45,7 @@ unfolding headIn
 start-in r e =
     let rest = take 4 (drop 20 r) in
     let a : length (take 8 r) ≡ 8 = length-take-le 8 r (omega arith) in
-    let b : length (take 8 (drop 8 r)) ≡ 8 = length-take-le 8 (drop 8 r) (let d = length-drop 8 r in omega arith) in
+    let b : length (take 8 (drop 8 r)) ≡ 8 = cut-length 8 8 r (omega arith) in
     sym (ap (λ (l : List ℕ). take 8 (drop 8 (l ++ rest))) (take-add 8 8 r)
     ∙ ap (λ (l : List ℕ). take 8 (drop 8 l)) (append-assoc (take 8 r) (rowStart r) rest)
     ∙ ap (take 8) (drop-at (take 8 r) (rowStart r ++ rest) 8 a)

@@ -1,17 +1,18 @@
 -- Heads that are driven alike stay alike: a channel's bit stays the same however the others strike. Assumes nothing.
-use Prim.Native.Nat.{ℕ, _+_, _*_, _^_, _<_}
+use Prim.Native.Nat.{ℕ, _<_}
 use mathlib.Core.Path.{_≡_, refl, sym, ap, _∙_, subst}
 use mathlib.Core.Bool.{Bool, not, _&&_}
 use mathlib.Core.List.{List, [], _∷_, _++_, map}
 use native.Mathlib.Omega.{arith}
 use lib.Dec.{T, eqb}
 use lib.ListN.{getD, take, drop, length-drop}
-use lib.Seq.{take-all, getD-take, getD-drop}
+use lib.Seq.{take-all, getD-take}
 use Rattle.laws.specs.Choice.{pick}
 use Rattle.laws.specs.Masks.{bitOf}
 use Rattle.laws.specs.Refusals.{refuse, orElse, said}
 use Rattle.laws.proofs.Picks.{push}
 use Rattle.tune.specs.Numbers.{littleAt}
+use Rattle.tune.proofs.Little.{little-cut}
 use Rattle.punch_head.specs.Registers.{isOn, statusOf, loaded, positionBytes, loadRule, headRule}
 use Rattle.punch_head.specs.Steps.{actionOf, statusBy, registersBy, stepSays, stepRegisters}
 use Rattle.punch_head.specs.Histories.{Call, Made, steps, Promised, did, sixteenZeros}
@@ -20,13 +21,6 @@ use Rattle.punch_head.specs.declared.actions.Action.the-variants.{Loaded
 use Rattle.punch_head.proofs.Stepping.{kept-rule}
 use Rattle.punch_head.proofs.Effects.{Sound, step-effect}
 use Rattle.punch_head.proofs.Accounts.{zeros-sound}
-
--- the number of four bytes is that of the four cut out
-cut-out : (s : List ℕ) (at : ℕ) → littleAt 4 s at ≡ littleAt 4 (take 4 (drop at s)) 0
-cut-out s at = λ i. 0 + byte 0 (omega arith) i * 256 ^ 0 + byte 1 (omega arith) i * 256 ^ 1 + byte 2 (omega arith) i * 256 ^ 2 + byte 3 (omega arith) i * 256 ^ 3
-  where
-    byte : (n : ℕ) → n < 4 → getD s (at + n) 0 ≡ getD (take 4 (drop at s)) n 0
-    byte n h = sym (getD-take 4 (drop at s) n 0 h ∙ getD-drop at s n 0)
 
 -- what one step leaves in the first four bytes and in the mask
 module _ (g : List ℕ) (command : ℕ) (r : List ℕ) where
@@ -37,9 +31,9 @@ module _ (g : List ℕ) (command : ℕ) (r : List ℕ) where
   bit-after : Sound g → (k : ℕ) → maskBit k (stepRegisters g command r) ≡ pick (did Loaded (stepSays g command r .values)) (rowBit k r) (maskBit k g)
   bit-after q k =
       let bit : List ℕ → ℕ = λ m. bitOf (littleAt 4 m 0) k in
-      ap (λ (n : ℕ). bitOf n k) (cut-out (stepRegisters g command r) 4)
+      ap (λ (n : ℕ). bitOf n k) (little-cut 4 4 (stepRegisters g command r) 4 (omega arith))
       ∙ ap bit (step-effect g command r q .mask)
-      ∙ push bit (did Loaded (stepSays g command r .values)) (ap (λ (n : ℕ). bitOf n k) (sym (cut-out r 16))) (ap (λ (n : ℕ). bitOf n k) (sym (cut-out g 4)))
+      ∙ push bit (did Loaded (stepSays g command r .values)) (ap (λ (n : ℕ). bitOf n k) (sym (little-cut 4 4 r 16 (omega arith)))) (ap (λ (n : ℕ). bitOf n k) (sym (little-cut 4 4 g 4 (omega arith))))
 
 -- registers that rule 15 takes, but for the mask
 others-is : (g : List ℕ) → Sound g → withoutMask g ≡ take 4 g ++ positionBytes g

@@ -5,10 +5,10 @@ use mathlib.Core.List.{List, [], _∷_, _++_, append-nil}
 use Prim.Native.Nat.{ℕ, _+_, _≤_}
 use native.Mathlib.Omega.{arith}
 use lib.Dec.{eqb}
-use lib.ListN.{length, getD, take, drop, set, length-drop, drop-of-length-le}
-use lib.Seq.{take-all, take-add, length-take-le}
+use lib.ListN.{length, getD, take, drop, set, drop-of-length-le}
+use lib.Seq.{take-all, take-add}
 use borrow.Author.Tests.{eq-eqb, ne-eqb, eqb-true, not-false}
-use Rattle.laws.proofs.Parts.{put-as, put-next}
+use Rattle.laws.proofs.Parts.{cut-length, put-as, put-next}
 use Rattle.laws.proofs.Picks.{choice, or-false, pick-equal, pick-unequal}
 use Rattle.laws.proofs.Rules.{kept, sound}
 use Rattle.punch_head.specs.Registers.{otherBits, statusOf, loaded, maskBytes, positionBytes, rowMask, rowStart, registersRule, loadRule, headRule}
@@ -102,16 +102,12 @@ module _ (g : List ℕ) (command : ℕ) (r : List ℕ) (n : ℕ) (e : n ≡ head
   step-done z f q =
       (rw (sym e ∙ z, f), q ∙ ap (λ (a : Action). registersBy a g command r) f ∙ sym (pick-equal (headRule g command r) 0 _ g (sym e ∙ z)))
 
--- so many bytes of a longer list
-pub part-length : (r : List ℕ) (n at : ℕ) → n + at ≤ length r → length (take n (drop at r)) ≡ n
-part-length r n at h = length-take-le n (drop at r) (let e = length-drop at r in omega arith)
-
 -- a record's mask and start, put one behind the other
 pub both-put : (g r : List ℕ) {xs ys : List ℕ} → length g ≡ 16 → length r ≡ 536 → xs ≡ take 4 g ++ (rowMask r ++ drop (4 + length (rowMask r)) g)
     → ys ≡ take 8 xs ++ (rowStart r ++ drop (8 + length (rowStart r)) xs) → ys ≡ take 4 g ++ (rowMask r ++ rowStart r)
 both-put g r e f p q =
-    let m : length (rowMask r) ≡ 4 = part-length r 4 16 (omega arith) in
-    let n : length (rowStart r) ≡ 8 = part-length r 8 8 (omega arith) in
+    let m : length (rowMask r) ≡ 4 = cut-length 4 16 r (omega arith) in
+    let n : length (rowStart r) ≡ 8 = cut-length 8 8 r (omega arith) in
     let h : length g ≤ 16 = omega arith in
     put-next g (rowMask r) {b = rowStart r} 4 4 8 12 refl (omega arith) m n refl (put-as g {b = rowMask r} 4 4 m refl p) q
     ∙ ap (λ (z : List ℕ). take 4 g ++ ((rowMask r ++ rowStart r) ++ z)) (drop-of-length-le g h)

@@ -1,11 +1,11 @@
 -- Numbers of several bytes, read off and given back. Assumes nothing.
-use mathlib.Core.Path.{_≡_, sym, ap, subst, _∙_}
+use mathlib.Core.Path.{_≡_, refl, sym, ap, subst, _∙_}
 use mathlib.Core.List.{List, _++_}
 use Prim.Native.Nat.{ℕ, zero, suc, _+_, _*_, _/_, _%_, _^_, _≤_, _<_}
-use native.Mathlib.Nat.{add-zero, add-assoc, mul-assoc, mul-le-mul-right, pow-suc, pow-succ'}
+use native.Mathlib.Nat.{add-zero, zero-add, add-assoc, mul-assoc, mul-le-mul-right, pow-suc, pow-succ'}
 use native.Mathlib.Omega.{arith}
-use lib.ListN.{getD, drop}
-use lib.Seq.{getD-drop, drop-drop}
+use lib.ListN.{getD, take, drop}
+use lib.Seq.{getD-take, getD-drop, drop-drop}
 use Rattle.tune.specs.Numbers.{littleAt, bytesOf, Bytes}
 
 pub two : (s : List ℕ) (at : ℕ) → littleAt 2 s at ≡ getD s at 0 + getD s (at + 1) 0 * 256
@@ -16,6 +16,12 @@ four s at = rw add-zero (omega arith)
 
 pub halves : (s : List ℕ) (at : ℕ) → littleAt 4 s at + littleAt 4 s (at + 4) * 4294967296 ≡ littleAt 8 s at
 halves s at = rw (add-zero, add-assoc at 4 0, add-assoc at 4 1, add-assoc at 4 2, add-assoc at 4 3) (omega arith)
+
+-- a number of n bytes stands in any m bytes from its place on
+pub little-cut : (n m : ℕ) (s : List ℕ) (at : ℕ) → n ≤ m → littleAt n s at ≡ littleAt n (take m (drop at s)) 0
+little-cut zero m s at h = refl
+little-cut (suc n) m s at h =
+    λ i. little-cut n m s at (omega arith) i + (sym (getD-drop at s n 0) ∙ sym (getD-take m (drop at s) n 0 (omega arith)) ∙ ap (λ (k : ℕ). getD (take m (drop at s)) k 0) (sym (zero-add n))) i * 256 ^ n
 
 -- a number of n bytes
 pub little-small : (n : ℕ) (s : List ℕ) (at : ℕ) → Bytes s → littleAt n s at < 256 ^ n
