@@ -10,15 +10,15 @@ use Rattle.laws.specs.Choice.{pick}
 use Rattle.laws.specs.Refusals.{Said}
 use Rattle.laws.proofs.Picks.{not-both}
 use Rattle.tune.specs.Numbers.{flag}
-use Rattle.punch_head.specs.Registers.{loaded, late, interrupt, maskBytes, positionBytes, rowMask, rowStart}
+use Rattle.punch_head.specs.Registers.{commandOf, loaded, late, interrupt, maskBytes, positionBytes, rowMask, rowStart}
 use Rattle.punch_head.specs.Steps.{stepSays, stepRegisters}
-use Rattle.punch_head.specs.Histories.{Call, Made, steps, Promised, behind, did, times, Since, sixteenZeros, Accounted}
+use Rattle.punch_head.specs.Histories.{Call, Made, steps, Promised, behind, did, lastCommand, times, Since, sixteenZeros, Accounted}
 use Rattle.punch_head.specs.declared.actions.Action.{Action}
 use Rattle.punch_head.specs.declared.actions.Action.the-variants.{Loaded, Late, Struck, Cleared}
 use Rattle.punch_head.proofs.Stepping.{kept-rule}
 use Rattle.punch_head.proofs.Effects.{turned, Sound, Effect, step-effect}
 
--- ---- step by step: what the last load put, and a bit that one action sets and another drops
+-- step by step: what the last load put, and a bit that one action sets and another drops
 unfoldable lastOf : (List ℕ → List ℕ) → List ℕ → List Made → List ℕ
 lastOf f x [] = x
 lastOf f x (m ∷ ms) = lastOf f (pick (did Loaded (m .says .values)) (f (m .call .row)) x) ms
@@ -29,6 +29,7 @@ turns a b x (m ∷ ms) = turns a b (turned a b (m .says .values) x) ms
 
 record Told (g : List ℕ) (ms : List Made) (g′ : List ℕ) : Type 0 where
   sound : Sound g′
+  command-is : commandOf g′ ≡ lastCommand (commandOf g) ms
   balance : times Struck ms + flag (loaded g′) ≡ times Loaded ms + flag (loaded g)
   mask : maskBytes g′ ≡ lastOf rowMask (maskBytes g) ms
   position : positionBytes g′ ≡ lastOf rowStart (positionBytes g) ms
@@ -36,15 +37,17 @@ record Told (g : List ℕ) (ms : List Made) (g′ : List ℕ) : Type 0 where
   interrupt-is : interrupt g′ ≡ turns Struck Cleared (interrupt g) ms
 
 told : (ms : List Made) (g : List ℕ) → Sound g → Promised g ms → Told g ms (behind g ms)
-unfolding Promised behind times lastOf turns
-told [] g k p = record { sound = k; balance = refl; mask = refl; position = refl; late-is = refl; interrupt-is = refl }
+unfolding Promised behind lastCommand times lastOf turns
+told [] g k p = record { sound = k; command-is = refl; balance = refl; mask = refl; position = refl; late-is = refl; interrupt-is = refl }
 told (m ∷ ms) g k p =
+    let c = m .call .command in
     let r = m .call .row in
-    let x : Effect (m .says .values) g r (m .after) =
-    subst⁻¹ (λ (s : Said Action). Effect (s .values) g r (m .after)) (p .0) (subst⁻¹ (Effect (stepSays g (m .call .command) r .values) g r) (p .1) (step-effect g (m .call .command) r k)) in
+    let x : Effect (m .says .values) g c r (m .after) =
+    subst⁻¹ (λ (s : Said Action). Effect (s .values) g c r (m .after)) (p .0) (subst⁻¹ (Effect (stepSays g c r .values) g c r) (p .1) (step-effect g c r k)) in
     let t = told ms (m .after) (x .sound) (p .2) in
     record {
       sound = t .sound;
+      command-is = t .command-is ∙ ap (λ (z : ℕ). lastCommand z ms) (x .command-is);
       balance = omega (arith, x .balance, t .balance);
       mask = t .mask ∙ ap (λ (z : List ℕ). lastOf rowMask z ms) (x .mask);
       position = t .position ∙ ap (λ (z : List ℕ). lastOf rowStart z ms) (x .position);
@@ -52,7 +55,7 @@ told (m ∷ ms) g k p =
       interrupt-is = t .interrupt-is ∙ ap (λ (z : Bool). turns Struck Cleared z ms) (x .interrupt-is);
     }
 
--- ---- the same, said of the list's parts
+-- the same, said of the list's parts
 -- a step that did not is not counted
 not-counted : (b : Bool) (n : ℕ) → flag b + n ≡ 0 → (b ≡ false) × (n ≡ 0)
 not-counted true n e = absurd (omega arith)
@@ -119,7 +122,7 @@ module _ (a b : Action) where
       by (inl p) = absurd (not-both (sym (p .0)))
       by (inr l) = l
 
--- ---- from sixteen zero bytes
+-- from sixteen zero bytes
 pub zeros-sound : Sound sixteenZeros
 zeros-sound = record { kept = record { size = refl; second = refl; third = refl; others = refl }; byte = omega arith }
 
@@ -130,6 +133,7 @@ accounted ms p =
     record {
       strikes-and-loads = t .balance ∙ add-zero (times Loaded ms);
       kept = kept-rule _ (t .sound .kept);
+      command = t .command-is;
       last-load = λ l. (t .mask ∙ last-since rowMask _ ms l, t .position ∙ last-since rowStart _ ms l);
       no-load = λ n. (t .mask ∙ last-none rowMask _ ms n, t .position ∙ last-none rowStart _ ms n);
       late-set = λ e. since-found Late Cleared ms (sym (t .late-is) ∙ e);

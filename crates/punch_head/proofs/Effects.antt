@@ -12,15 +12,16 @@ use lib.Seq.{take-all, take-at, drop-at}
 use Rattle.laws.specs.Choice.{pick}
 use Rattle.laws.specs.Entries.{every}
 use Rattle.laws.specs.Masks.{bitOf}
+use Rattle.laws.proofs.Parts.{cut-length}
 use Rattle.laws.proofs.Picks.{chain, and-true}
 use Rattle.laws.proofs.Tables.{at}
 use Rattle.tune.specs.Numbers.{flag}
-use Rattle.punch_head.specs.Registers.{otherBits, statusOf, loaded, late, interrupt, maskBytes, positionBytes, rowMask, rowStart, headRule}
+use Rattle.punch_head.specs.Registers.{otherBits, commandOf, statusOf, loaded, late, interrupt, maskBytes, positionBytes, rowMask, rowStart, headRule}
 use Rattle.punch_head.specs.Steps.{actionOf, numberOf, same, statusBy, takenBy, registersBy, stepSays, stepRegisters}
-use Rattle.punch_head.specs.Histories.{did}
+use Rattle.punch_head.specs.Histories.{did, keptBy}
 use Rattle.punch_head.specs.declared.actions.Action.{Action}
 use Rattle.punch_head.specs.declared.actions.Action.the-variants.{Loaded, Late, Struck, Cleared, Nothing}
-use Rattle.punch_head.proofs.Stepping.{Kept, action-cases, part-length, row-whole}
+use Rattle.punch_head.proofs.Stepping.{Kept, action-cases, row-whole}
 
 -- a bit that an action sets, that another drops, and that all others leave
 abbrev pub turned : Action → Action → Option Action → Bool → Bool
@@ -70,9 +71,10 @@ pub record Sound (g : List ℕ) : Type 0 where
   pub kept : Kept g
   pub byte : statusOf g < 256
 
--- what was done, x, to registers g with a record r, once they are g′
-pub record Effect (x : Option Action) (g r g′ : List ℕ) : Type 0 where
+-- what was done, x, to registers g by a command with a record r, once they are g′
+pub record Effect (x : Option Action) (g : List ℕ) (command : ℕ) (r g′ : List ℕ) : Type 0 where
   pub sound : Sound g′
+  pub command-is : commandOf g′ ≡ keptBy x command (commandOf g)
   pub balance : flag (did Struck x) + flag (loaded g′) ≡ flag (did Loaded x) + flag (loaded g)
   pub mask : maskBytes g′ ≡ pick (did Loaded x) (rowMask r) (maskBytes g)
   pub position : positionBytes g′ ≡ pick (did Loaded x) (rowStart r) (positionBytes g)
@@ -105,7 +107,7 @@ balanced command b =
     (λ _ e. ap (λ (z : Bool). 1 + flag z) (sym e)) (λ _. refl) (λ e. ap (λ (z : Bool). 0 + flag z) (sym e)) refl refl
 
 module _ (g : List ℕ) (command : ℕ) (r : List ℕ) (k : Sound g) where
-  acted : headRule g command r ≡ 0 → Effect (some (actionOf command (loaded g))) g r (registersBy (actionOf command (loaded g)) g command r)
+  acted : headRule g command r ≡ 0 → Effect (some (actionOf command (loaded g))) g command r (registersBy (actionOf command (loaded g)) g command r)
   unfolding registersBy
   acted e =
       let a = actionOf command (loaded g) in
@@ -115,11 +117,12 @@ module _ (g : List ℕ) (command : ℕ) (r : List ℕ) (k : Sound g) where
       let p = takenBy a (rowStart r) (positionBytes g) in
       let n = k .kept .size in
       let whole = row-whole g command r (loaded g) e refl in
-      let i : length m ≡ 4 = chain length (same a Loaded) (λ t. part-length r 4 16 (let w = whole t in omega arith)) (λ t. part-length g 4 4 (omega arith)) in
-      let j : length p ≡ 8 = chain length (same a Loaded) (λ t. part-length r 8 8 (let w = whole t in omega arith)) (λ t. part-length g 8 8 (omega arith)) in
+      let i : length m ≡ 4 = chain length (same a Loaded) (λ t. cut-length 4 16 r (let w = whole t in omega arith)) (λ t. cut-length 4 4 g (omega arith)) in
+      let j : length p ≡ 8 = chain length (same a Loaded) (λ t. cut-length 8 8 r (let w = whole t in omega arith)) (λ t. cut-length 8 8 g (omega arith)) in
       let t = statusBy a s in
       record {
         sound = record { kept = record { size = sixteen-size command t m p i j; second = refl; third = refl; others = b .others ∙ k .kept .others }; byte = b .byte };
+        command-is = refl;
         balance = ap (λ (z : Bool). flag (same a Struck) + flag z) (ap (λ (z : ℕ). eqb z 1) (b .loaded-is) ∙ on (same a Loaded) (same a Struck) (bitOf s 0)) ∙ balanced command (loaded g);
         mask = sixteen-mask command t m p i j;
         position = sixteen-position command t m p i j;
@@ -128,10 +131,10 @@ module _ (g : List ℕ) (command : ℕ) (r : List ℕ) (k : Sound g) where
       }
 
   -- a refused step leaves everything
-  pub step-effect : Effect (stepSays g command r .values) g r (stepRegisters g command r)
+  pub step-effect : Effect (stepSays g command r .values) g command r (stepRegisters g command r)
   unfolding stepRegisters
   step-effect = by (eqb (headRule g command r) 0) refl
     where
-      by : (b : Bool) → eqb (headRule g command r) 0 ≡ b → Effect (pick b (some (actionOf command (loaded g))) none) g r (pick b (registersBy (actionOf command (loaded g)) g command r) g)
+      by : (b : Bool) → eqb (headRule g command r) 0 ≡ b → Effect (pick b (some (actionOf command (loaded g))) none) g command r (pick b (registersBy (actionOf command (loaded g)) g command r) g)
       by true e = acted (eqb-true (headRule g command r) 0 e)
-      by false e = record { sound = k; balance = refl; mask = refl; position = refl; late-is = refl; interrupt-is = refl }
+      by false e = record { sound = k; command-is = refl; balance = refl; mask = refl; position = refl; late-is = refl; interrupt-is = refl }

@@ -8,7 +8,7 @@ use mathlib.Core.Option.{Option, none, some}
 use lib.ListN.{replicate}
 use Rattle.laws.specs.Refusals.{Said}
 use Rattle.tune.specs.Numbers.{flag}
-use Rattle.punch_head.specs.Registers.{registersSize, loaded, late, interrupt, maskBytes, positionBytes, rowMask, rowStart, registersRule}
+use Rattle.punch_head.specs.Registers.{registersSize, commandOf, loaded, late, interrupt, maskBytes, positionBytes, rowMask, rowStart, registersRule}
 use Rattle.punch_head.specs.Steps.{same, stepSays, stepRegisters}
 use Rattle.punch_head.specs.declared.actions.Action.{Action}
 use Rattle.punch_head.specs.declared.actions.Action.the-variants.{Loaded, Late, Struck, Cleared}
@@ -48,6 +48,15 @@ abbrev pub did : Action → Option Action → Bool
 did a none = false
 did a (some b) = same b a
 
+-- the last command that was kept, x before the first: a refused one is not
+abbrev pub keptBy : Option Action → ℕ → ℕ → ℕ
+keptBy none command x = x
+keptBy (some a) command x = command
+
+unfoldable pub lastCommand : ℕ → List Made → ℕ
+lastCommand x [] = x
+lastCommand x (m ∷ ms) = lastCommand (keptBy (m .says .values) (m .call .command) x) ms
+
 -- how many steps did a
 unfoldable pub times : Action → List Made → ℕ
 times a [] = 0
@@ -71,6 +80,8 @@ pub record Accounted (g : List ℕ) (ms : List Made) : Type 0 where
   pub strikes-and-loads : times Struck ms + flag (loaded g) ≡ times Loaded ms
   -- they are not refused as 15
   pub kept : registersRule g ≡ 0
+  -- byte 0 has the last command that was not refused
+  pub command : commandOf g ≡ lastCommand 0 ms
   -- mask and position are those of the last load that was taken, 0 before the first
   pub last-load : (l : Since Loaded Loaded ms) → (maskBytes g ≡ rowMask (l .step .call .row)) × (positionBytes g ≡ rowStart (l .step .call .row))
   pub no-load : times Loaded ms ≡ 0 → (maskBytes g ≡ replicate 4 0) × (positionBytes g ≡ replicate 8 0)

@@ -8,7 +8,10 @@ use Rattle.laws.specs.Masks.{bitOf}
 use Rattle.laws.specs.Refusals.{refuse, orElse}
 use Rattle.section.specs.Records.{recordSize, startAt, strikesAt}
 
--- "0 command, 1 status, 2 to 3 zero, 4 to 7 mask, 8 to 15 position", so the command stands first
+-- "0 command, 1 status, 2 to 3 zero, 4 to 7 mask, 8 to 15 position"
+abbrev pub commandAt : ℕ
+commandAt = 0
+
 abbrev pub statusAt : ℕ
 statusAt = 1
 
@@ -59,6 +62,9 @@ abbrev pub otherBits : ℕ → ℕ
 otherBits s = s / 2 ^ 2 % 2 ^ 5
 
 -- what the registers say
+abbrev pub commandOf : List ℕ → ℕ
+commandOf g = getD g commandAt 0
+
 abbrev pub statusOf : List ℕ → ℕ
 statusOf g = getD g statusAt 0
 
@@ -84,7 +90,7 @@ rowMask r = take 4 (drop strikesAt r)
 abbrev pub rowStart : List ℕ → List ℕ
 rowStart r = take 8 (drop startAt r)
 
--- "15, registers not 16 bytes, or bytes 2 and 3 not zero, or other status bits set"
+-- "15, registers not 16 bytes, or bytes 2 and 3 not zero", either of them, "or other status bits set"
 unfoldable pub registersRule : List ℕ → ℕ
 registersRule g =
     refuse 15
