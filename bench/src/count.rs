@@ -2,7 +2,7 @@
 
 use crate::rows::{SECTION, ours, walk};
 use crate::tunes::Kind;
-use crate::{closed, path, reading, strikes};
+use crate::{closed, head, path, reading, records, strikes};
 use lomqashe::RECORD_BYTES;
 use oracle::player::bridge::{Original, open};
 use oracle::writer;
@@ -70,5 +70,18 @@ pub fn closed(name: &str, library: bool) -> bool {
         black_box(asked(black_box(&tune)));
     });
     println!("{}", closed::PATTERNS);
+    true
+}
+
+/// Loads and strikes the records of a kind, by the library or by plain Rust, and prints how many there are. False: there is
+/// no such kind.
+pub fn head(name: &str, library: bool) -> bool {
+    let Some(kind) = Kind::named(name) else {
+        return false;
+    };
+    let [records, ..] = records::of_kind(kind);
+    let strikes = if library { head::library } else { head::plain };
+    counted_work(&mut || strikes(&records));
+    println!("{}", records.len());
     true
 }

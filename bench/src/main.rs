@@ -1,11 +1,14 @@
 //! Times the library beside the original, on the same tunes in one run: walking rows, and reading files; its lists of
-//! strikes beside a sort, and its answer whether a tune is closed beside a loop. README.md says what each column is.
+//! strikes beside a sort, its answer whether a tune is closed beside a loop, and its punch head beside plain Rust. README.md
+//! says what each column is.
 
 mod clock;
 mod closed;
 mod count;
+mod head;
 mod path;
 mod reading;
+mod records;
 mod rows;
 mod strikes;
 mod tunes;
@@ -13,7 +16,7 @@ mod tunes;
 use std::process::ExitCode;
 use tunes::Kind;
 
-const USAGE: &str = "usage: bench/run [rows | sections | strikes | closed | reading]";
+const USAGE: &str = "usage: bench/run [rows | sections | strikes | closed | head | reading]";
 
 fn main() -> ExitCode {
     let words: Vec<String> = std::env::args().skip(1).collect();
@@ -29,8 +32,10 @@ fn main() -> ExitCode {
             println!();
             let closed = closed::table();
             println!();
+            let struck = head::table();
+            println!();
             reading::table();
-            same && listed && closed
+            same && listed && closed && struck
         }
         ["rows"] => rows::table(),
         ["sections"] => {
@@ -39,12 +44,14 @@ fn main() -> ExitCode {
         }
         ["strikes"] => strikes::table(),
         ["closed"] => closed::table(),
+        ["head"] => head::table(),
         ["reading"] => {
             reading::table();
             true
         }
         ["count", name, work @ ("strikes" | "sort")] => count::strikes(name, work == "strikes"),
         ["count", name, work @ ("closed" | "loop")] => count::closed(name, work == "closed"),
+        ["count", name, work @ ("head" | "plain")] => count::head(name, work == "head"),
         ["count", kind, work] => Kind::named(kind).is_some_and(|kind| count::run(kind, work)),
         _ => {
             eprintln!("{USAGE}");

@@ -1,18 +1,15 @@
 //! Strikes: the library beside a stable sort of the struck channels, on the same records.
 
 use crate::clock::{best, mean, spread};
-use crate::rows::ours;
+use crate::records::{self, RECORDS};
 use crate::tunes::{Kind, SEEDS};
 use lomqashe::{CHANNELS, RECORD_BYTES, Record};
-use oracle::generate::records;
+use oracle::generate;
 use oracle::random::Random;
 use oracle::strikes::{frequency_at, lower};
 use oracle::tune::le32;
 use std::hint::black_box;
 
-/// The rows of a tune's four patterns, and the tunes: of fewer lists the machine learns how a sort's comparisons go.
-const ROWS: usize = 256;
-const TUNES: usize = 8;
 /// Kinds of tunes, and records that all channels strike with any bits as their frequencies.
 const NAMES: [&str; 5] = ["dense", "half", "sparse", "empty", ANY];
 const ANY: &str = "any";
@@ -22,16 +19,7 @@ pub fn named(name: &str) -> Option<[Vec<Record>; SEEDS.len()]> {
     if name == ANY {
         return Some(SEEDS.map(any));
     }
-    Kind::named(name).map(|kind| SEEDS.map(|seed| of_tunes(kind, seed)))
-}
-
-fn of_tunes(kind: &Kind, seed: u64) -> Vec<Record> {
-    let tunes = (seed..)
-        .step_by(SEEDS.len())
-        .take(TUNES)
-        .map(|seed| ours(&kind.tune(seed)));
-    let rows = tunes.flat_map(|tune| tune.rows(50).expect("it opens").take(ROWS).collect::<Vec<_>>());
-    rows.collect()
+    Kind::named(name).map(records::of_kind)
 }
 
 fn any(seed: u64) -> Vec<Record> {
@@ -39,10 +27,10 @@ fn any(seed: u64) -> Vec<Record> {
     let record = |_| {
         let mut bytes = [0; RECORD_BYTES];
         let frequencies: [u32; CHANNELS] = [(); CHANNELS].map(|_| random.number() as u32);
-        records::put(&mut bytes, u32::MAX, frequencies);
+        generate::records::put(&mut bytes, u32::MAX, frequencies);
         Record::from_bytes(&bytes)
     };
-    (0..TUNES * ROWS).map(record).collect()
+    (0..RECORDS).map(record).collect()
 }
 
 /// The lists of all records by the library.
