@@ -136,10 +136,10 @@ accounted ms p =
       command = t .command-is;
       last-load = λ l. (t .mask ∙ last-since rowMask _ ms l, t .position ∙ last-since rowStart _ ms l);
       no-load = λ n. (t .mask ∙ last-none rowMask _ ms n, t .position ∙ last-none rowStart _ ms n);
-      late-set = λ e. since-found Late Cleared ms (sym (t .late-is) ∙ e);
-      set-late = λ l. t .late-is ∙ since-set Late Cleared false ms l;
-      interrupt-set = λ e. since-found Struck Cleared ms (sym (t .interrupt-is) ∙ e);
-      set-interrupt = λ l. t .interrupt-is ∙ since-set Struck Cleared false ms l;
+      late-since = λ e. since-found Late Cleared ms (sym (t .late-is) ∙ e);
+      since-late = λ l. t .late-is ∙ since-set Late Cleared false ms l;
+      interrupt-since = λ e. since-found Struck Cleared ms (sym (t .interrupt-is) ∙ e);
+      since-interrupt = λ l. t .interrupt-is ∙ since-set Struck Cleared false ms l;
     }
 
 promised : (cs : List Call) (g : List ℕ) → Promised g (steps g cs)

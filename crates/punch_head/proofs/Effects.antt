@@ -7,20 +7,19 @@ use Prim.Native.Nat.{ℕ, _+_, _<_}
 use native.Mathlib.Omega.{arith}
 use borrow.Author.Tests.{eqb-true, ltb-true}
 use lib.Dec.{eqb, ltb}
-use lib.ListN.{length, take, drop, replicate, length-append}
+use lib.ListN.{length, take, drop, length-append}
 use lib.Seq.{take-all, take-at, drop-at}
 use Rattle.laws.specs.Choice.{pick}
-use Rattle.laws.specs.Entries.{every}
 use Rattle.laws.specs.Masks.{bitOf}
 use Rattle.laws.proofs.Parts.{cut-length}
 use Rattle.laws.proofs.Picks.{chain, and-true}
-use Rattle.laws.proofs.Tables.{at}
 use Rattle.tune.specs.Numbers.{flag}
 use Rattle.punch_head.specs.Registers.{otherBits, commandOf, statusOf, loaded, late, interrupt, maskBytes, positionBytes, rowMask, rowStart, headRule}
 use Rattle.punch_head.specs.Steps.{actionOf, numberOf, same, statusBy, takenBy, registersBy, stepSays, stepRegisters}
 use Rattle.punch_head.specs.Histories.{did, keptBy}
 use Rattle.punch_head.specs.declared.actions.Action.{Action}
 use Rattle.punch_head.specs.declared.actions.Action.the-variants.{Loaded, Late, Struck, Cleared, Nothing}
+use Rattle.punch_head.proofs.Masks.{allBytes, each-byte}
 use Rattle.punch_head.proofs.Stepping.{Kept, action-cases, row-whole}
 
 -- a bit that an action sets, that another drops, and that all others leave
@@ -43,7 +42,7 @@ tests a s =
     && (eqb (bitOf (statusBy a s) 1) (pick (same a Late) 1 (pick (same a Cleared) 0 (bitOf s 1)))
     && eqb (bitOf (statusBy a s) 7) (pick (same a Struck) 1 (pick (same a Cleared) 0 (bitOf s 7))))))
 
-all-tests : (a : Action) → every {X = ℕ} (λ s _. tests a s) 0 (replicate 256 0) ≡ true
+all-tests : (a : Action) → allBytes (tests a) ≡ true
 unfolding tests statusBy numberOf
 all-tests Loaded = refl
 all-tests Late = refl
@@ -54,7 +53,7 @@ all-tests Nothing = refl
 pub bits : (a : Action) (s : ℕ) → s < 256 → Bits a s
 unfolding tests
 bits a s h =
-    let p = and-true _ _ (at {X = ℕ} (λ s _. tests a s) (replicate 256 0) 0 (all-tests a) s h) in
+    let p = and-true _ _ (each-byte (tests a) (all-tests a) s h) in
     let q = and-true _ _ (p .1) in
     let r = and-true _ _ (q .1) in
     let t = and-true _ _ (r .1) in

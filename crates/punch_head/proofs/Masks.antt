@@ -13,6 +13,13 @@ use Rattle.laws.proofs.Picks.{and-true}
 use Rattle.laws.proofs.Tables.{at}
 use Rattle.punch_head.specs.Registers.{withBit, withoutBit, otherBits}
 
+-- a test of all 256 bytes, and of one of them
+abbrev pub allBytes : (ℕ → Bool) → Bool
+allBytes f = every {X = ℕ} (λ s _. f s) 0 (replicate 256 0)
+
+pub each-byte : (f : ℕ → Bool) → allBytes f ≡ true → (s : ℕ) → s < 256 → f s ≡ true
+each-byte f t s h = at {X = ℕ} (λ s _. f s) (replicate 256 0) 0 t s h
+
 pub record Masks (s : ℕ) : Type 0 where
   pub is-loaded : bitAnd s 1 ≡ bitOf s 0
   pub others : bitAnd s 124 ≡ otherBits s * 4
@@ -30,12 +37,12 @@ tests s =
     && (eqb (bitOr (bitAnd s 254) 128) (withBit (withoutBit s 0) 7)
     && eqb (bitAnd s 125) (withoutBit (withoutBit s 1) 7)))))
 
-all-masks : every {X = ℕ} (λ s _. tests s) 0 (replicate 256 0) ≡ true
+all-masks : allBytes tests ≡ true
 all-masks = refl
 
 pub masks : (s : ℕ) → s < 256 → Masks s
 masks s h =
-    let a = and-true _ _ (at {X = ℕ} (λ s _. tests s) (replicate 256 0) 0 all-masks s h) in
+    let a = and-true _ _ (each-byte tests all-masks s h) in
     let b = and-true _ _ (a .1) in
     let c = and-true _ _ (b .1) in
     let d = and-true _ _ (c .1) in

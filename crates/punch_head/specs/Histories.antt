@@ -86,7 +86,7 @@ pub record Accounted (g : List ℕ) (ms : List Made) : Type 0 where
   pub last-load : (l : Since Loaded Loaded ms) → (maskBytes g ≡ rowMask (l .step .call .row)) × (positionBytes g ≡ rowStart (l .step .call .row))
   pub no-load : times Loaded ms ≡ 0 → (maskBytes g ≡ replicate 4 0) × (positionBytes g ≡ replicate 8 0)
   -- late is set exactly where a load came while loaded since the last clear, and the interrupt where a strike was done
-  pub late-set : late g ≡ true → Since Late Cleared ms
-  pub set-late : Since Late Cleared ms → late g ≡ true
-  pub interrupt-set : interrupt g ≡ true → Since Struck Cleared ms
-  pub set-interrupt : Since Struck Cleared ms → interrupt g ≡ true
+  pub late-since : late g ≡ true → Since Late Cleared ms
+  pub since-late : Since Late Cleared ms → late g ≡ true
+  pub interrupt-since : interrupt g ≡ true → Since Struck Cleared ms
+  pub since-interrupt : Since Struck Cleared ms → interrupt g ≡ true
