@@ -1,4 +1,4 @@
--- What a row leaves of a channel's memory, command and info, and the opening values that it never changes. Assumes nothing.
+-- What a row leaves of a channel's memory, command and info, and the fixed values that it never changes. Assumes nothing.
 use Prim.Native.Nat.{ℕ}
 use mathlib.Core.Path.{_≡_, refl, _∙_}
 use mathlib.Core.Bool.{Bool, _&&_, not}
@@ -8,6 +8,7 @@ use lib.Ieee.{Float, lt}
 use Rattle.laws.proofs.Picks.{chain}
 use Rattle.tune.specs.Samples.{sampleOf}
 use Rattle.tune.specs.declared.cells.Cell.{Cell}
+use Rattle.tune.specs.declared.opening.ChannelOpening.{ChannelOpening}
 use Rattle.tune.specs.declared.samples.Sample.{Sample}
 use Rattle.tune.specs.declared.samples.SampleOption.{SampleOption}
 use Rattle.tune.specs.declared.samples.SampleOption.the-variants.{None, Some}
@@ -15,12 +16,18 @@ use Rattle.channel.specs.declared.state.Channel.{Channel}
 use Rattle.channel.specs.declared.state.Played.{Played}
 use Rattle.channel.specs.declared.state.Switches.{Switches}
 use Rattle.channel.specs.Set.{withRow, withDelay, withInstrument}
+use Rattle.channel.specs.Opening.{openedChannel}
 use Rattle.channel.specs.Levels.{silence}
 use Rattle.channel.specs.Memory.{recalled, stored, begun}
 use Rattle.channel.specs.Play.{loadedFrom, loaded, cut, aimed, started, slides, noteOn, slidBack, noted, volumed, volumedAfter, instrumentOf, playCell}
 use Rattle.channel.specs.Commands.{fineSlid, finetuned, extendedBy, commanded}
 use Rattle.channel.specs.Row.{putsOff, putOff, withInfo, delivered, relatched, finished, channelEntered}
-use Rattle.channel.proofs.Held.{Fixed, Keeps, Held, held, keeps, delay-held, instrument-held, stored-held, voice-held, cut-off-held, pitch-held, note-held, start-held, volume-held, latch-held, pan-held, glissando-held, vibrato-held, tremolo-held}
+use Rattle.channel.proofs.Held.{Keeps, Held, held, keeps, delay-held, instrument-held, stored-held, voice-held, cut-off-held, pitch-held, note-held, start-held, volume-held, latch-held, pan-held, glissando-held, vibrato-held, tremolo-held}
+
+-- Open takes the fixed values over
+pub opened-fixed : (o : ChannelOpening) → openedChannel o .fixed ≡ o .fixed
+unfolding openedChannel
+opened-fixed o = refl
 
 abbrev heldIn : Played → Held
 heldIn e = held (e .channel)
@@ -36,7 +43,7 @@ load-held c i named g = chain held (eqb i 0) (λ _. refl) (λ _. load-from-held 
 
 cut-held : (c : Channel) → held (cut c) ≡ held c
 unfolding cut
-cut-held c = chain held (c .adlib && not (eqb (c .«opl_voice») 0)) (λ _. voice-held c 2) (λ _. cut-off-held c _ _)
+cut-held c = chain held (c .fixed .adlib && not (eqb (c .«opl_voice») 0)) (λ _. voice-held c 2) (λ _. cut-off-held c _ _)
 
 aim-held : (c : Channel) (note : ℕ) (f : Float) (amiga : Bool) → held (aimed c note f amiga) ≡ held c
 unfolding aimed
@@ -97,8 +104,8 @@ unfolding extendedBy
 extended-held c x p amiga =
     chain held (eqb x 1) (λ _. glissando-held c _)
     (λ _. chain held (eqb x 2) (λ _. tune-held c p amiga)
-    (λ _. chain held (eqb x 3) (λ _. vibrato-held c _ _)
-    (λ _. chain held (eqb x 4) (λ _. tremolo-held c _ _)
+    (λ _. chain held (eqb x 3) (λ _. vibrato-held c _)
+    (λ _. chain held (eqb x 4) (λ _. tremolo-held c _)
     (λ _. chain held (eqb x 8) (λ _. pan-held c _)
     (λ _. chain held (eqb x 10) (λ _. pan-held c _) (λ _. refl))))))
 
@@ -155,9 +162,7 @@ module _ (c : Channel) (l : Cell) (sInfo : ℕ) (samples : List ℕ) (w : Switch
   unfolding begun withRow
   entered-info = entered-keeps .info
 
-  -- a row leaves the opening values
-  pub entered-fixed : Fixed c (channelEntered c l sInfo samples w g .channel)
+  -- a row leaves the fixed values
+  pub entered-fixed : channelEntered c l sInfo samples w g .channel .fixed ≡ c .fixed
   unfolding begun withRow
-  entered-fixed =
-      let f = entered-keeps .fixed in
-      record { muted = f .muted; right-bank = f .right-bank; adlib = f .adlib }
+  entered-fixed = entered-keeps .fixed

@@ -1,41 +1,34 @@
--- The setters that a step after the recall uses leave a channel's memory, command, info and opening values. Assumes nothing.
+-- The setters that a step after the recall uses leave a channel's memory, command, info and fixed values. Assumes nothing.
 use Prim.Native.Nat.{ℕ}
 use mathlib.Core.Path.{_≡_, refl, ap}
 use mathlib.Core.Bool.{Bool}
 use mathlib.Core.List.{List}
 use lib.Ieee.{Float}
+use Rattle.tune.specs.declared.opening.Fixed.{Fixed}
 use Rattle.channel.specs.declared.state.Channel.{Channel}
+use Rattle.channel.specs.declared.state.Oscillator.{Oscillator}
 use Rattle.channel.specs.declared.state.TriggerOption.{TriggerOption}
-use Rattle.channel.specs.declared.state.Waveform.{Waveform}
 use Rattle.channel.specs.Set.{withDelay, withInstrument, withStored, withVoice, withCut, withPitch, withNote, withStart, withVolume, withLatch, withPan, withGlissando, withVibrato, withTremolo}
-
--- the opening values that no row changes
-pub record Fixed (c d : Channel) : Type 0 where
-  pub muted : d .muted ≡ c .muted
-  pub right-bank : d .«right_bank» ≡ c .«right_bank»
-  pub adlib : d .adlib ≡ c .adlib
 
 -- what no step after the recall changes
 pub record Keeps (c d : Channel) : Type 0 where
   pub memory : d .«effect_memory» ≡ c .«effect_memory»
   pub command : d .command ≡ c .command
   pub info : d .info ≡ c .info
-  pub fixed : Fixed c d
+  pub fixed : d .fixed ≡ c .fixed
 
--- the six of them together
+-- the four of them together
 pub record Held : Type 0 where
   pub memory : List ℕ
   pub command : ℕ
   pub info : ℕ
-  pub muted : Bool
-  pub right-bank : Bool
-  pub adlib : Bool
+  pub fixed : Fixed
 
 -- what a channel has of them
 unfoldable pub held : Channel → Held
-held c = record { memory = c .«effect_memory»; command = c .command; info = c .info; muted = c .muted; right-bank = c .«right_bank»; adlib = c .adlib }
+held c = record { memory = c .«effect_memory»; command = c .command; info = c .info; fixed = c .fixed }
 
--- a step that leaves all six keeps each
+-- a step that leaves all four keeps each
 pub keeps : (c d : Channel) → held d ≡ held c → Keeps c d
 unfolding held
 keeps c d e =
@@ -43,14 +36,10 @@ keeps c d e =
       memory = ap (λ (h : Held). h .memory) e;
       command = ap (λ (h : Held). h .command) e;
       info = ap (λ (h : Held). h .info) e;
-      fixed = record {
-        muted = ap (λ (h : Held). h .muted) e;
-        right-bank = ap (λ (h : Held). h .right-bank) e;
-        adlib = ap (λ (h : Held). h .adlib) e;
-      };
+      fixed = ap (λ (h : Held). h .fixed) e;
     }
 
--- each setter below leaves all six
+-- each setter below leaves all four
 pub delay-held : (c : Channel) (d : TriggerOption) → held (withDelay c d) ≡ held c
 unfolding held withDelay
 delay-held c d = refl
@@ -75,7 +64,7 @@ pub pitch-held : (c : Channel) (f t : Float) → held (withPitch c f t) ≡ held
 unfolding held withPitch
 pitch-held c f t = refl
 
-pub start-held : (c : Channel) (at : Float) (on : Bool) (v t n : ℕ) (f : Bool) (m : ℕ) → held (withStart c at on v t n f m) ≡ held c
+pub start-held : (c : Channel) (at : Float) (on : Bool) (v t : Oscillator) (n : ℕ) (f : Bool) (m : ℕ) → held (withStart c at on v t n f m) ≡ held c
 unfolding held withStart
 start-held c at on v t n f m = refl
 
@@ -99,10 +88,10 @@ pub glissando-held : (c : Channel) (on : Bool) → held (withGlissando c on) ≡
 unfolding held withGlissando
 glissando-held c on = refl
 
-pub vibrato-held : (c : Channel) (f : Waveform) (on : Bool) → held (withVibrato c f on) ≡ held c
+pub vibrato-held : (c : Channel) (o : Oscillator) → held (withVibrato c o) ≡ held c
 unfolding held withVibrato
-vibrato-held c f on = refl
+vibrato-held c o = refl
 
-pub tremolo-held : (c : Channel) (f : Waveform) (on : Bool) → held (withTremolo c f on) ≡ held c
+pub tremolo-held : (c : Channel) (o : Oscillator) → held (withTremolo c o) ≡ held c
 unfolding held withTremolo
-tremolo-held c f on = refl
+tremolo-held c o = refl

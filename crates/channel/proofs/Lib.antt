@@ -5,6 +5,7 @@ pub mod Own
 pub mod Held
 pub mod Armed
 pub mod Delivered
+pub mod Each
 pub mod Numbered
 pub mod Resting
 pub mod Visits

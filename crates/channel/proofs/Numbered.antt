@@ -1,21 +1,16 @@
 -- A row leaves a channel's frequency and target numbers. Assumes nothing.
-use Prim.Native.Nat.{ℕ, _<_}
-use mathlib.Core.Path.{sym, subst}
+use Prim.Native.Nat.{ℕ}
 use mathlib.Core.Bool.{Bool, _&&_, not}
 use mathlib.Core.List.{List}
-use native.Mathlib.Omega.{arith}
 use lib.Dec.{T, eqb, leb}
-use lib.ListN.{length, getD}
 use lib.Ieee.{Float, isNan, lt}
 use Rattle.laws.proofs.Picks.{choice}
-use Rattle.tune.specs.Cells.{cellOf}
 use Rattle.tune.specs.Samples.{sampleOf}
 use Rattle.tune.specs.declared.cells.Cell.{Cell}
 use Rattle.tune.specs.declared.opening.ChannelOpening.{ChannelOpening}
 use Rattle.tune.specs.declared.samples.SampleOption.{SampleOption}
 use Rattle.tune.specs.declared.samples.SampleOption.the-variants.{None, Some}
 use Rattle.pitch.specs.Finetune.{finetuneOf}
-use Rattle.pitch.specs.Frequency.{noteFrequency}
 use Rattle.pitch.proofs.Numbers.{frequency-number, slid-number, limited-number}
 use Rattle.channel.specs.declared.state.Channel.{Channel}
 use Rattle.channel.specs.declared.state.Played.{Played}
@@ -23,13 +18,14 @@ use Rattle.channel.specs.declared.state.Switches.{Switches}
 use Rattle.channel.specs.Set.{withRow, withDelay, withInstrument, withStored, withVoice, withCut, withPitch, withNote, withStart, withVolume, withLatch, withPan, withGlissando, withVibrato, withTremolo}
 use Rattle.channel.specs.Numbers.{Numbers}
 use Rattle.channel.specs.Opening.{openedChannel}
+use Rattle.channel.specs.Pitches.{frequencyOn}
 use Rattle.channel.specs.Levels.{silence}
 use Rattle.channel.specs.Memory.{begun}
 use Rattle.channel.specs.Play.{loadedFrom, loaded, cut, aimed, started, slides, noteOn, slidBack, noted, volumed, volumedAfter, instrumentOf, playCell}
 use Rattle.channel.specs.Commands.{fineSlid, finetuned, extendedBy, commanded}
 use Rattle.channel.specs.Row.{putsOff, putOff, withInfo, delivered, relatched, finished, channelEntered}
-use Rattle.channel.specs.Channels.{enteredAt, channelsEntered}
-use Rattle.channel.proofs.Own.{channel-at, channels-length}
+use Rattle.channel.specs.Channels.{channelsEntered}
+use Rattle.channel.proofs.Each.{Each, each-entered}
 
 abbrev NumbersIn : Played → Type 0
 NumbersIn e = Numbers (e .channel)
@@ -56,7 +52,7 @@ load-numbers c i named g h =
 cut-numbers : (c : Channel) → Numbers c → Numbers (cut c)
 unfolding cut withVoice withCut
 cut-numbers c h =
-    choice Numbers (c .adlib && not (eqb (c .«opl_voice») 0))
+    choice Numbers (c .fixed .adlib && not (eqb (c .«opl_voice») 0))
     (λ _. record { frequency = h .frequency; target = h .target })
     (λ _. record { frequency = silence-number; target = h .target })
 
@@ -68,8 +64,8 @@ note-numbers : (c : Channel) (l : Cell) (named : SampleOption) (amiga : Bool) �
 unfolding noteOn started withStart withPitch
 note-numbers c l None amiga h = h
 note-numbers c l (Some s) amiga h =
-    let f = noteFrequency (l .note) (s .«c5_speed») in
-    let n = frequency-number (l .note) (s .«c5_speed») in
+    let f = frequencyOn c (l .note) (s .«c5_speed») in
+    let n = frequency-number (l .note) _ (s .«c5_speed») in
     let m = limited-number amiga f n in
     choice NumbersIn (slides (l .command) && lt silence (c .frequency)) (λ _. aim-numbers c (l .note) f amiga n h) (λ _. record { frequency = m; target = m })
 
@@ -78,7 +74,7 @@ unfolding slidBack
 back-numbers c l None amiga h = h
 back-numbers c l (Some s) amiga h =
     choice Numbers (slides (l .command) && not (eqb (c .«last_note») 0))
-    (λ _. aim-numbers c _ _ amiga (frequency-number (c .«last_note») (s .«c5_speed»)) h) (λ _. h)
+    (λ _. aim-numbers c _ _ amiga (frequency-number (c .«last_note») _ (s .«c5_speed»)) h) (λ _. h)
 
 noted-numbers : (c : Channel) (l : Cell) (named : SampleOption) (amiga : Bool) → Numbers c → NumbersIn (noted c l named amiga)
 unfolding noted
@@ -118,7 +114,7 @@ slide-numbers c up amiga h =
 tune-numbers : (c : Channel) (p : ℕ) (amiga : Bool) → Numbers c → Numbers (finetuned c p amiga)
 unfolding finetuned withPitch
 tune-numbers c p amiga h =
-    let m = limited-number amiga _ (frequency-number (c .«last_note») (finetuneOf p)) in
+    let m = limited-number amiga _ (frequency-number (c .«last_note») _ (finetuneOf p)) in
     choice Numbers (eqb (c .«last_note») 0) (λ _. h) (λ _. record { frequency = m; target = m })
 
 extended-numbers : (c : Channel) (x p : ℕ) (amiga : Bool) → Numbers c → Numbers (extendedBy c x p amiga)
@@ -154,11 +150,8 @@ entered-numbers c l sInfo samples w g h =
 
 -- each channel's are numbers
 abbrev pub Numbered : Channel → List Channel → Type 0
-Numbered d cs = (k : ℕ) → k < length cs → Numbers (getD cs k d)
+Numbered d cs = Each Numbers d cs
 
 -- a row leaves numbers in all channels
 pub channels-numbered : (row sInfos samples : List ℕ) (w : Switches) (g : ℕ) (cs : List Channel) (d : Channel) → Numbered d cs → Numbered d (channelsEntered row sInfos samples w g cs)
-unfolding enteredAt
-channels-numbered row sInfos samples w g cs d h k b =
-    let i : k < length cs = omega (arith, channels-length row sInfos samples w g cs) in
-    subst Numbers (sym (channel-at row sInfos samples w g cs k d i)) (entered-numbers (getD cs k d) (cellOf row k) (getD sInfos k 0) samples w g (h k i))
+channels-numbered = each-entered Numbers entered-numbers

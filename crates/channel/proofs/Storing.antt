@@ -15,12 +15,11 @@ use Rattle.tune.specs.declared.samples.SampleOption.the-variants.{None, Some}
 use Rattle.channel.specs.declared.state.Channel.{Channel}
 use Rattle.channel.specs.declared.state.Played.{Played}
 use Rattle.channel.specs.declared.state.Switches.{Switches}
-use Rattle.channel.specs.declared.state.Waveform.{Waveform}
 use Rattle.channel.specs.Set.{withRow, withMemory, withDelay, withInstrument, withStored, withVoice, withCut, withPitch, withNote, withStart, withVolume, withLatch, withPan, withGlissando, withVibrato, withTremolo}
 use Rattle.channel.specs.Levels.{silence, volumeSlid, stereoPan, setPan}
 use Rattle.channel.specs.Memory.{stored, begun, armed}
 use Rattle.channel.specs.Play.{unstruck, strikes, loadedFrom, loaded, cut, aimed, voiceOf, started, slides, noteOn, slidBack, noted, volumed, volumedAfter, instrumentOf, playCell}
-use Rattle.channel.specs.Commands.{fineSlid, finetuned, extendedBy, commanded}
+use Rattle.channel.specs.Commands.{fineSlid, finetuned, shaped, extendedBy, commanded}
 use Rattle.channel.specs.Row.{putsOff, putOff, withInfo, delivered, relatched, finished, channelEntered}
 
 module _ (m : List ℕ) where
@@ -41,7 +40,7 @@ module _ (m : List ℕ) where
 
   cut-set : (c : Channel) → set (cut c) ≡ cut (set c)
   unfolding cut withVoice withCut withMemory
-  cut-set c = push set (c .adlib && not (eqb (c .«opl_voice») 0)) refl refl
+  cut-set c = push set (c .fixed .adlib && not (eqb (c .«opl_voice») 0)) refl refl
 
   aim-set : (c : Channel) (note : ℕ) (f : Float) (amiga : Bool) → set (aimed c note f amiga) ≡ aimed (set c) note f amiga
   unfolding aimed withPitch withNote withMemory
@@ -104,7 +103,7 @@ module _ (m : List ℕ) where
   unfolding withPan withMemory
   pan-set c p = refl
 
-  stereo-set : (c : Channel) (p : ℕ) → set (withPan c (stereoPan p (c .«right_bank») (c .pan))) ≡ withPan (set c) (stereoPan p (set c .«right_bank») (set c .pan))
+  stereo-set : (c : Channel) (p : ℕ) → set (withPan c (stereoPan p (c .fixed .«right_bank») (c .pan))) ≡ withPan (set c) (stereoPan p (set c .fixed .«right_bank») (set c .pan))
   unfolding withPan withMemory
   stereo-set c p = refl
 
@@ -112,21 +111,21 @@ module _ (m : List ℕ) where
   unfolding withGlissando withMemory
   glissando-set c b = refl
 
-  vibrato-set : (c : Channel) (w : Waveform) (keeps : Bool) → set (withVibrato c w keeps) ≡ withVibrato (set c) w keeps
+  vibrato-set : (c : Channel) (p : ℕ) → set (withVibrato c (shaped (c .vibrato) p)) ≡ withVibrato (set c) (shaped (set c .vibrato) p)
   unfolding withVibrato withMemory
-  vibrato-set c w keeps = refl
+  vibrato-set c p = refl
 
-  tremolo-set : (c : Channel) (w : Waveform) (keeps : Bool) → set (withTremolo c w keeps) ≡ withTremolo (set c) w keeps
+  tremolo-set : (c : Channel) (p : ℕ) → set (withTremolo c (shaped (c .tremolo) p)) ≡ withTremolo (set c) (shaped (set c .tremolo) p)
   unfolding withTremolo withMemory
-  tremolo-set c w keeps = refl
+  tremolo-set c p = refl
 
   extended-set : (c : Channel) (x p : ℕ) (amiga : Bool) → set (extendedBy c x p amiga) ≡ extendedBy (set c) x p amiga
   unfolding extendedBy
   extended-set c x p amiga =
       push set (eqb x 1) (glissando-set c _)
       (push set (eqb x 2) (tune-set c p amiga)
-      (push set (eqb x 3) (vibrato-set c _ _)
-      (push set (eqb x 4) (tremolo-set c _ _) (push set (eqb x 8) (pan-set c _) (push set (eqb x 10) (stereo-set c p) refl)))))
+      (push set (eqb x 3) (vibrato-set c p)
+      (push set (eqb x 4) (tremolo-set c p) (push set (eqb x 8) (pan-set c _) (push set (eqb x 10) (stereo-set c p) refl)))))
 
   level-set : (c : Channel) (v : ℕ) → set (withVolume c v) ≡ withVolume (set c) v
   unfolding withVolume withMemory

@@ -3,14 +3,15 @@ use Prim.Native.Nat.{ℕ, _/_, _%_}
 use mathlib.Core.Bool.{Bool, true, false, not}
 use lib.Dec.{eqb, leb}
 use Rattle.laws.specs.Choice.{pick}
-use Rattle.pitch.specs.Frequency.{noteFrequency}
 use Rattle.pitch.specs.Finetune.{finetuneOf}
 use Rattle.pitch.specs.Limits.{limited}
 use Rattle.pitch.specs.Slides.{slid, factorNumber}
 use Rattle.channel.specs.declared.state.Channel.{Channel}
+use Rattle.channel.specs.declared.state.Oscillator.{Oscillator}
 use Rattle.channel.specs.declared.state.Switches.{Switches}
 use Rattle.channel.specs.declared.state.Waveform.{Waveform}
 use Rattle.channel.specs.declared.state.Waveform.the-variants.{Sine, RampDown, Square, Random}
+use Rattle.channel.specs.Pitches.{frequencyOn}
 use Rattle.channel.specs.Levels.{volumeSlid, stereoPan, setPan}
 use Rattle.channel.specs.Set.{withPitch, withVolume, withPan, withGlissando, withVibrato, withTremolo}
 
@@ -28,8 +29,8 @@ unfoldable pub finetuned : Channel → ℕ → Bool → Channel
 finetuned c p amiga =
     pick (eqb (c .«last_note») 0) c
     (withPitch c
-    (limited amiga (noteFrequency (c .«last_note») (finetuneOf p)))
-    (limited amiga (noteFrequency (c .«last_note») (finetuneOf p))))
+    (limited amiga (frequencyOn c (c .«last_note») (finetuneOf p)))
+    (limited amiga (frequencyOn c (c .«last_note») (finetuneOf p))))
 
 -- S3x and S4x: the low two bits name the waveform, bit 2 keeps its position on new notes
 unfoldable pub waveformOf : ℕ → Waveform
@@ -38,15 +39,18 @@ waveformOf p = pick (eqb (p % 4) 0) Sine (pick (eqb (p % 4) 1) RampDown (pick (e
 abbrev pub keepsPosition : ℕ → Bool
 keepsPosition p = eqb (p / 4 % 2) 1
 
+unfoldable pub shaped : Oscillator → ℕ → Oscillator
+shaped o p = record { pos = o .pos; waveform = waveformOf p; «keep_pos_on_new_note» = keepsPosition p }
+
 -- Sxp: x names one of sixteen, of which these act at a row's start
 unfoldable pub extendedBy : Channel → ℕ → ℕ → Bool → Channel
 extendedBy c x p amiga =
     pick (eqb x 1) (withGlissando c (not (eqb p 0)))
     (pick (eqb x 2) (finetuned c p amiga)
-    (pick (eqb x 3) (withVibrato c (waveformOf p) (keepsPosition p))
-    (pick (eqb x 4) (withTremolo c (waveformOf p) (keepsPosition p))
+    (pick (eqb x 3) (withVibrato c (shaped (c .vibrato) p))
+    (pick (eqb x 4) (withTremolo c (shaped (c .tremolo) p))
     (pick (eqb x 8) (withPan c p)
-    (pick (eqb x 10) (withPan c (stereoPan p (c .«right_bank») (c .pan)))
+    (pick (eqb x 10) (withPan c (stereoPan p (c .fixed .«right_bank») (c .pan)))
     c)))))
 
 -- D (4), E (5), F (6), S (19) and X (24)

@@ -1,4 +1,5 @@
 pub mod Set
+pub mod Pitches
 pub mod Levels
 pub mod Memory
 pub mod Play

@@ -3,9 +3,14 @@ use mathlib.Core.Bool.{false}
 use lib.ListN.{replicate}
 use Rattle.tune.specs.declared.opening.ChannelOpening.{ChannelOpening}
 use Rattle.channel.specs.declared.state.Channel.{Channel}
+use Rattle.channel.specs.declared.state.Oscillator.{Oscillator}
 use Rattle.channel.specs.declared.state.TriggerOption.the-variants.{None}
 use Rattle.channel.specs.declared.state.Waveform.the-variants.{Sine}
 use Rattle.channel.specs.Levels.{silence}
+
+-- a vibrato or tremolo that no command has set
+abbrev pub resting : Oscillator
+resting = record { pos = 0; waveform = Sine; «keep_pos_on_new_note» = false }
 
 unfoldable pub openedChannel : ChannelOpening → Channel
 openedChannel o =
@@ -19,24 +24,17 @@ openedChannel o =
       «target_frequency» = silence;
       command = 0;
       info = 0;
-      «vibrato_pos» = 0;
-      «tremolo_pos» = 0;
+      vibrato = resting;
+      tremolo = resting;
       «last_note» = 0;
       «pending_delay» = None;
       glissando = false;
-      «vibrato_waveform» = Sine;
-      «tremolo_waveform» = Sine;
       «retrig_counter» = 0;
-      «tremor_on_counter» = 0;
-      «tremor_off_counter» = 0;
+      tremor = record { «on_counter» = 0; «off_counter» = 0 };
       «stored_volume» = 0;
-      «keep_vibrato_pos_on_new_note» = false;
-      «keep_tremolo_pos_on_new_note» = false;
       «effect_memory» = replicate 32 0;
-      muted = o .muted;
       frozen = false;
-      «right_bank» = o .«right_bank»;
-      adlib = o .adlib;
+      fixed = o .fixed;
       «opl_voice» = 0;
       «voice_global_vol» = 64;
     }

@@ -11,11 +11,12 @@ use Rattle.tune.specs.declared.cells.Cell.{Cell}
 use Rattle.tune.specs.declared.samples.Sample.{Sample}
 use Rattle.tune.specs.declared.samples.SampleOption.{SampleOption}
 use Rattle.tune.specs.declared.samples.SampleOption.the-variants.{None, Some}
-use Rattle.pitch.specs.Frequency.{noteFrequency}
 use Rattle.pitch.specs.Limits.{limited}
 use Rattle.pitch.specs.Offset.{offsetOf}
 use Rattle.channel.specs.declared.state.Channel.{Channel}
+use Rattle.channel.specs.declared.state.Oscillator.{Oscillator}
 use Rattle.channel.specs.declared.state.Played.{Played}
+use Rattle.channel.specs.Pitches.{frequencyOn}
 use Rattle.channel.specs.Levels.{silence, peak, loadPeak}
 use Rattle.channel.specs.Set.{withInstrument, withStored, withVoice, withCut, withPitch, withNote, withStart}
 
@@ -28,14 +29,14 @@ strikes c = record { channel = c; struck = true }
 -- an instrument is taken over, and its volume loaded where its sample is there; g is the global volume
 unfoldable pub loadedFrom : Channel → SampleOption → ℕ → Channel
 loadedFrom c None g = c
-loadedFrom c (Some s) g = withStored c (loadPeak (c .adlib) (s .volume)) g
+loadedFrom c (Some s) g = withStored c (loadPeak (c .fixed .adlib) (s .volume)) g
 
 unfoldable pub loaded : Channel → ℕ → SampleOption → ℕ → Channel
 loaded c instrument named g = pick (eqb instrument 0) c (loadedFrom (withInstrument c instrument) named g)
 
 -- a cut: on AdLib with a voice it only releases (voice mark 2), else it silences and leaves the target
 unfoldable pub cut : Channel → Channel
-cut c = pick (c .adlib && not (eqb (c .«opl_voice») 0)) (withVoice c 2) (withCut c silence false)
+cut c = pick (c .fixed .adlib && not (eqb (c .«opl_voice») 0)) (withVoice c 2) (withCut c silence false)
 
 -- a slide's target; the Amiga limits act on both frequencies
 unfoldable pub aimed : Channel → ℕ → Float → Bool → Channel
@@ -50,15 +51,18 @@ startOf l s =
 
 -- the voice mark of a note that is struck: on AdLib 1, keyed, or 0 where the sample is none of AdLib
 unfoldable pub voiceOf : Channel → Sample → ℕ
-voiceOf c s = pick (c .adlib) (pick (isAdlib s) 1 0) (c .«opl_voice»)
+voiceOf c s = pick (c .fixed .adlib) (pick (isAdlib s) 1 0) (c .«opl_voice»)
+
+-- a vibrato or tremolo at a struck note: from its start, unless it keeps its position
+unfoldable pub renewed : Oscillator → Oscillator
+renewed o =
+    record { pos = pick (o .«keep_pos_on_new_note») (o .pos) 0; waveform = o .waveform; «keep_pos_on_new_note» = o .«keep_pos_on_new_note» }
 
 -- a struck note
 unfoldable pub started : Channel → Cell → Float → Sample → Bool → Channel
 started c l f s amiga =
     withStart (withPitch c (limited amiga f) (limited amiga f)) (startOf l s) true
-    (pick (c .«keep_vibrato_pos_on_new_note») (c .«vibrato_pos») 0)
-    (pick (c .«keep_tremolo_pos_on_new_note») (c .«tremolo_pos») 0)
-    (l .note) false (voiceOf c s)
+    (renewed (c .vibrato)) (renewed (c .tremolo)) (l .note) false (voiceOf c s)
 
 -- G or L
 abbrev pub slides : ℕ → Bool
@@ -69,15 +73,15 @@ unfoldable pub noteOn : Channel → Cell → SampleOption → Bool → Played
 noteOn c l None amiga = unstruck c
 noteOn c l (Some s) amiga =
     pick (slides (l .command) && lt silence (c .frequency))
-    (unstruck (aimed c (l .note) (noteFrequency (l .note) (s .«c5_speed»)) amiga))
-    (strikes (started c l (noteFrequency (l .note) (s .«c5_speed»)) s amiga))
+    (unstruck (aimed c (l .note) (frequencyOn c (l .note) (s .«c5_speed»)) amiga))
+    (strikes (started c l (frequencyOn c (l .note) (s .«c5_speed»)) s amiga))
 
 -- G or L without a note: back to the last one
 unfoldable pub slidBack : Channel → Cell → SampleOption → Bool → Channel
 slidBack c l None amiga = c
 slidBack c l (Some s) amiga =
     pick (slides (l .command) && not (eqb (c .«last_note») 0))
-    (aimed c (c .«last_note») (noteFrequency (c .«last_note») (s .«c5_speed»)) amiga)
+    (aimed c (c .«last_note») (frequencyOn c (c .«last_note») (s .«c5_speed»)) amiga)
     c
 
 -- note 254 cuts, 255 is none

@@ -4,15 +4,16 @@ ghost use Prim.Native.Nat.{_<_};
 ghost use Rattle.pitch.specs.Octaves.{keptPeriods};
 ghost use Rattle.pitch.specs.Slides.{factorNumber, slid};
 ghost use Rattle.pitch.specs.Limits.{limited};
-ghost use Rattle.channel.specs.Commands.{fineSlid, finetuned, waveformOf, keepsPosition, extendedBy, commanded};
+ghost use Rattle.channel.specs.Commands.{fineSlid, finetuned, waveformOf, keepsPosition, shaped, extendedBy, commanded};
 use crate::levels::set_pan;
 use crate::levels::slide_volume;
 use crate::levels::stereo_pan;
+use crate::pitches::frequency_on;
 use crate::state::Channel;
+use crate::state::Oscillator;
 use crate::state::Switches;
 use crate::state::Waveform;
 use pitch::finetune::finetune;
-use pitch::frequency::note_to_frequency;
 use pitch::limits::clamp_amiga;
 use pitch::slides::fine_slide;
 use tune::numbers::high_nibble;
@@ -47,7 +48,7 @@ fn tune_finely(c: Channel, p: u8, table: &[u32], amiga: bool) -> Channel
         return d;
     }
     let f = clamp_amiga(
-        note_to_frequency(c.last_note, finetune(p as usize), table),
+        frequency_on(c, c.last_note, finetune(p as usize), table),
         amiga,
     );
     d.frequency = f;
@@ -73,6 +74,17 @@ fn keeps_position(p: u8) -> bool
     p / 4 % 2 == 1
 }
 
+// A vibrato or tremolo after S3x or S4x.
+fn shape(o: Oscillator, p: u8) -> Oscillator
+    ensures { λ r. ⌜ r ≡ shaped o p ⌝ }
+{
+    Oscillator {
+        pos: o.pos,
+        waveform: waveform_of(p),
+        keep_pos_on_new_note: keeps_position(p),
+    }
+}
+
 // Sxp.
 fn extended(c: Channel, x: u8, p: u8, table: &[u32], amiga: bool) -> Channel
     requires { ⌜ p < 16 ⌝ ∗ ⌜ now table ≡ keptPeriods ⌝ }
@@ -85,14 +97,22 @@ fn extended(c: Channel, x: u8, p: u8, table: &[u32], amiga: bool) -> Channel
             d
         }
         2 => tune_finely(c, p, table, amiga),
-        3 => c.with_vibrato(waveform_of(p), keeps_position(p)),
-        4 => c.with_tremolo(waveform_of(p), keeps_position(p)),
+        3 => {
+            let vibrato = c.vibrato;
+            d.vibrato = shape(vibrato, p);
+            d
+        }
+        4 => {
+            let tremolo = c.tremolo;
+            d.tremolo = shape(tremolo, p);
+            d
+        }
         8 => {
             d.pan = p;
             d
         }
         10 => {
-            d.pan = stereo_pan(p, c.right_bank, c.pan);
+            d.pan = stereo_pan(p, c.fixed.right_bank, c.pan);
             d
         }
         _ => d,

@@ -3,6 +3,7 @@ pub mod channels;
 pub mod commands;
 pub mod levels;
 pub mod memory;
+pub mod pitches;
 pub mod play;
 pub mod rest;
 pub mod row;

@@ -5,6 +5,7 @@ ghost use lib.Dec.{eqb};
 ghost use Rattle.channel.specs.Memory.{resumes, hasMemory, slotOf, remembered, recalled, armed};
 use crate::levels::choose;
 use crate::state::Channel;
+use crate::state::TriggerOption;
 use tune::cells::Cell;
 
 fn is_resume_command(command: u8) -> bool
@@ -79,5 +80,5 @@ pub fn arm(c: Channel, cell: Cell, s_info: u8) -> Channel
     let info = recall(memory, cell.command, cell.info, s_info);
     let counter = choose(cell.command == 17, c.retrig_counter, 0);
     let frozen = stays_frozen(c.frozen, cell.command);
-    c.with_row(cell.command, info, counter, frozen)
+    c.with_row(cell.command, info, TriggerOption::None, counter, frozen)
 }

@@ -5,9 +5,9 @@ ghost use Rattle.channel.specs.Play.{loaded, cut, aimed, startOf, voiceO
 use crate::levels::choose;
 use crate::levels::clamp_pcm_volume;
 use crate::levels::load_peak;
+use crate::pitches::frequency_on;
 use crate::state::Channel;
 use crate::state::Played;
-use pitch::frequency::note_to_frequency;
 use pitch::limits::clamp_amiga;
 use pitch::offset::resolve_sample_offset;
 use tune::cells::Cell;
@@ -26,7 +26,7 @@ fn load_from(c: Channel, instrument: u8, named: SampleOption, global: u8) -> Cha
     match named {
         SampleOption::None => d,
         SampleOption::Some(s) => {
-            let v = load_peak(c.adlib, s.volume);
+            let v = load_peak(c.fixed.adlib, s.volume);
             d.volume = v;
             d.stored_volume = v;
             d.voice_global_vol = global;
@@ -39,7 +39,7 @@ fn cut_note(c: Channel) -> Channel
     ensures { λ r. ⌜ r ≡ cut c ⌝ }
 {
     let mut d = c;
-    if c.adlib & (c.opl_voice != 0) {
+    if c.fixed.adlib & (c.opl_voice != 0) {
         d.opl_voice = 2;
         return d;
     }
@@ -77,7 +77,7 @@ fn start_of(cell: Cell, s: Sample) -> f64
 fn voice_of(c: Channel, s: Sample) -> u8
     ensures { λ r. ⌜ r ≡ voiceOf c s ⌝ }
 {
-    if c.adlib {
+    if c.fixed.adlib {
         return choose(s.is_adlib(), 1, 0);
     }
     c.opl_voice
@@ -93,8 +93,10 @@ fn start(c: Channel, cell: Cell, f: f32, s: Sample, amiga: bool) -> Channel
     d.target_frequency = limited;
     d.sample_pos = start_of(cell, s);
     d.active = true;
-    d.vibrato_pos = choose(c.keep_vibrato_pos_on_new_note, c.vibrato_pos, 0);
-    d.tremolo_pos = choose(c.keep_tremolo_pos_on_new_note, c.tremolo_pos, 0);
+    let vibrato_pos = choose(c.vibrato.keep_pos_on_new_note, c.vibrato.pos, 0);
+    d.vibrato.pos = vibrato_pos;
+    let tremolo_pos = choose(c.tremolo.keep_pos_on_new_note, c.tremolo.pos, 0);
+    d.tremolo.pos = tremolo_pos;
     d.last_note = cell.note;
     d.frozen = false;
     d.opl_voice = voice_of(c, s);
@@ -117,7 +119,7 @@ fn note_on(c: Channel, cell: Cell, named: SampleOption, table: &[u32], amiga: bo
             struck: false,
         },
         SampleOption::Some(s) => {
-            let f = note_to_frequency(cell.note, s.c5_speed, table);
+            let f = frequency_on(c, cell.note, s.c5_speed, table);
             if is_slide(cell.command) & (c.frequency > 0.0) {
                 let channel = aim(c, cell.note, f, amiga);
                 return Played {
@@ -142,7 +144,7 @@ fn slide_back(c: Channel, cell: Cell, named: SampleOption, table: &[u32], amiga:
         SampleOption::None => c,
         SampleOption::Some(s) => {
             if is_slide(cell.command) & (c.last_note != 0) {
-                let f = note_to_frequency(c.last_note, s.c5_speed, table);
+                let f = frequency_on(c, c.last_note, s.c5_speed, table);
                 return aim(c, c.last_note, f, amiga);
             }
             c

@@ -1,8 +1,9 @@
 // A channel's state.
 ghost use mathlib.Core.Path.{_≡_};
 ghost use Rattle.channel.specs.Opening.{openedChannel};
-ghost use Rattle.channel.specs.Set.{withRow, withDelay, withVibrato, withTremolo};
+ghost use Rattle.channel.specs.Set.{withRow, withDelay};
 use tune::opening::ChannelOpening;
+use tune::opening::Fixed;
 
 // The waveform of a vibrato or a tremolo.
 pub enum Waveform {
@@ -10,6 +11,19 @@ pub enum Waveform {
     RampDown,
     Square,
     Random,
+}
+
+// A vibrato or a tremolo: where it stands, its waveform, and whether a struck note leaves it there.
+pub struct Oscillator {
+    pub waveform: Waveform,
+    pub pos: u8,
+    pub keep_pos_on_new_note: bool,
+}
+
+// The counters of a tremor, which no row's start changes.
+pub struct Tremor {
+    pub on_counter: u8,
+    pub off_counter: u8,
 }
 
 // A cell that SDx puts off to a later tick.
@@ -25,8 +39,9 @@ pub enum TriggerOption {
     Some(PendingTrigger),
 }
 
-// The Rust's Channel. The S slot (19) of its memory is the path's, slots 27 to 31 are spare. The AdLib voice is a mark:
-// 0 none, 1 keyed, 2 released.
+// The Rust's Channel, with what goes together in structs of its own. The S slot (19) of its memory is the path's, slots 27 to
+// 31 are spare. The AdLib voice is a mark: 0 none, 1 keyed, 2 released. The fields are copied one by one: this order takes
+// fewer instructions a row than the Rust's.
 pub struct Channel {
     pub frequency: f32,
     pub target_frequency: f32,
@@ -34,29 +49,22 @@ pub struct Channel {
     pub effect_memory: [u8; 32],
     pub instrument: u8,
     pub volume: u8,
-    pub pan: u8,
     pub active: bool,
     pub command: u8,
+    pub pan: u8,
+    pub vibrato: Oscillator,
     pub info: u8,
-    pub vibrato_pos: u8,
-    pub tremolo_pos: u8,
     pub last_note: u8,
-    pub pending_delay: TriggerOption,
     pub glissando: bool,
-    pub vibrato_waveform: Waveform,
-    pub tremolo_waveform: Waveform,
+    pub tremor: Tremor,
     pub retrig_counter: u8,
-    pub tremor_on_counter: u8,
-    pub tremor_off_counter: u8,
-    pub stored_volume: u8,
-    pub keep_vibrato_pos_on_new_note: bool,
-    pub keep_tremolo_pos_on_new_note: bool,
-    pub muted: bool,
-    pub frozen: bool,
-    pub right_bank: bool,
-    pub adlib: bool,
-    pub opl_voice: u8,
     pub voice_global_vol: u8,
+    pub stored_volume: u8,
+    pub tremolo: Oscillator,
+    pub frozen: bool,
+    pub opl_voice: u8,
+    pub fixed: Fixed,
+    pub pending_delay: TriggerOption,
 }
 
 // A channel after a cell was played, and whether a note was struck.
@@ -75,6 +83,16 @@ pub struct Switches {
 pub fn open_channel(o: ChannelOpening) -> Channel
     ensures { λ r. ⌜ r ≡ openedChannel o ⌝ }
 {
+    let vibrato = Oscillator {
+        pos: 0,
+        waveform: Waveform::Sine,
+        keep_pos_on_new_note: false,
+    };
+    let tremor = Tremor {
+        on_counter: 0,
+        off_counter: 0,
+    };
+    let fixed = o.fixed;
     Channel {
         instrument: 0,
         frequency: 0.0,
@@ -85,44 +103,39 @@ pub fn open_channel(o: ChannelOpening) -> Channel
         target_frequency: 0.0,
         command: 0,
         info: 0,
-        vibrato_pos: 0,
-        tremolo_pos: 0,
+        vibrato,
+        tremolo: vibrato,
         last_note: 0,
         pending_delay: TriggerOption::None,
         glissando: false,
-        vibrato_waveform: Waveform::Sine,
-        tremolo_waveform: Waveform::Sine,
         retrig_counter: 0,
-        tremor_on_counter: 0,
-        tremor_off_counter: 0,
+        tremor,
         stored_volume: 0,
-        keep_vibrato_pos_on_new_note: false,
-        keep_tremolo_pos_on_new_note: false,
         effect_memory: [0; 32],
-        muted: o.muted,
         frozen: false,
-        right_bank: o.right_bank,
-        adlib: o.adlib,
+        fixed,
         opl_voice: 0,
         voice_global_vol: 64,
     }
 }
 
 impl Channel {
-    // The channel made anew: a field that holds an enum cannot be stored.
-    fn remade(
+    // With a row's command, info and delay. The channel is made anew: a field that holds an enum cannot be stored.
+    pub fn with_row(
         self,
         command: u8,
         info: u8,
         delay: TriggerOption,
         counter: u8,
         frozen: bool,
-        vibrato: Waveform,
-        tremolo: Waveform,
     ) -> Channel
-        ensures { λ r. ⌜ r ≡ withTremolo (withVibrato (withRow self command info delay counter (self .«effect_memory») frozen) vibrato (self .«keep_vibrato_pos_on_new_note»)) tremolo (self .«keep_tremolo_pos_on_new_note») ⌝ }
+        ensures { λ r. ⌜ r ≡ withRow self command info delay counter (self .«effect_memory») frozen ⌝ }
     {
         let effect_memory = self.effect_memory;
+        let vibrato = self.vibrato;
+        let tremolo = self.tremolo;
+        let tremor = self.tremor;
+        let fixed = self.fixed;
         Channel {
             instrument: self.instrument,
             frequency: self.frequency,
@@ -133,86 +146,31 @@ impl Channel {
             target_frequency: self.target_frequency,
             command,
             info,
-            vibrato_pos: self.vibrato_pos,
-            tremolo_pos: self.tremolo_pos,
+            vibrato,
+            tremolo,
             last_note: self.last_note,
             pending_delay: delay,
             glissando: self.glissando,
-            vibrato_waveform: vibrato,
-            tremolo_waveform: tremolo,
             retrig_counter: counter,
-            tremor_on_counter: self.tremor_on_counter,
-            tremor_off_counter: self.tremor_off_counter,
+            tremor,
             stored_volume: self.stored_volume,
-            keep_vibrato_pos_on_new_note: self.keep_vibrato_pos_on_new_note,
-            keep_tremolo_pos_on_new_note: self.keep_tremolo_pos_on_new_note,
             effect_memory,
-            muted: self.muted,
             frozen,
-            right_bank: self.right_bank,
-            adlib: self.adlib,
+            fixed,
             opl_voice: self.opl_voice,
             voice_global_vol: self.voice_global_vol,
         }
     }
 
-    // With a row's command and info, and no delay.
-    pub fn with_row(self, command: u8, info: u8, counter: u8, frozen: bool) -> Channel
-        ensures { λ r. ⌜ r ≡ withRow self command info TriggerOption.None counter (self .«effect_memory») frozen ⌝ }
+    pub fn with_delay(self, delay: TriggerOption) -> Channel
+        ensures { λ r. ⌜ r ≡ withDelay self delay ⌝ }
     {
-        let vibrato = self.vibrato_waveform;
-        let tremolo = self.tremolo_waveform;
-        self.remade(
-            command,
-            info,
-            TriggerOption::None,
-            counter,
-            frozen,
-            vibrato,
-            tremolo,
-        )
-    }
-
-    // With all that is an enum.
-    fn with_enums(self, delay: TriggerOption, vibrato: Waveform, tremolo: Waveform) -> Channel
-        ensures { λ r. ⌜ r ≡ withTremolo (withVibrato (withDelay self delay) vibrato (self .«keep_vibrato_pos_on_new_note»)) tremolo (self .«keep_tremolo_pos_on_new_note») ⌝ }
-    {
-        self.remade(
+        self.with_row(
             self.command,
             self.info,
             delay,
             self.retrig_counter,
             self.frozen,
-            vibrato,
-            tremolo,
         )
-    }
-
-    pub fn with_delay(self, delay: TriggerOption) -> Channel
-        ensures { λ r. ⌜ r ≡ withDelay self delay ⌝ }
-    {
-        let vibrato = self.vibrato_waveform;
-        let tremolo = self.tremolo_waveform;
-        self.with_enums(delay, vibrato, tremolo)
-    }
-
-    pub fn with_vibrato(self, waveform: Waveform, keeps: bool) -> Channel
-        ensures { λ r. ⌜ r ≡ withVibrato self waveform keeps ⌝ }
-    {
-        let delay = self.pending_delay;
-        let tremolo = self.tremolo_waveform;
-        let mut c = self.with_enums(delay, waveform, tremolo);
-        c.keep_vibrato_pos_on_new_note = keeps;
-        c
-    }
-
-    pub fn with_tremolo(self, waveform: Waveform, keeps: bool) -> Channel
-        ensures { λ r. ⌜ r ≡ withTremolo self waveform keeps ⌝ }
-    {
-        let delay = self.pending_delay;
-        let vibrato = self.vibrato_waveform;
-        let mut c = self.with_enums(delay, vibrato, waveform);
-        c.keep_tremolo_pos_on_new_note = keeps;
-        c
     }
 }

@@ -52,7 +52,7 @@ after volume command info =
 unfoldable pub examples : List Bool
 examples =
     -- note 0x40 at 8363: 8363.0
-    eq (noteFrequency 0x40 8363) (fin false 8363 (pos 0))
+    eq (noteFrequency 0x40 (pos 0) 8363) (fin false 8363 (pos 0))
     -- C 0x3F: row 45
     ∷ same (rowsOf (walked (0 ∷ 0 ∷ []) (pattern 0 3 0x3F) 2)) (0 ∷ 45 ∷ [])
     -- C 0x63: 63

@@ -50,8 +50,12 @@ module _ {X : Type 0} (f : X → List ℕ) where
           same = e ∙ part-more out₀ (inTurn f (take i xs)) x start (i * size) size (w .room) (w .bytes) (w .same) ∙ rw (add-assoc start (i * size) size, s, turn-next xs i d h);
         }
 
+    pub each-written : (i : ℕ) (out : List ℕ) → Written start size xs out₀ out i → length xs ≤ i → out ≡ take start out₀ ++ (inTurn f xs ++ drop (start + i * size) out₀)
+    each-written i out w h = w .same ∙ rw (take-all i xs h)
+
+    -- up to the end
     pub all-written : (i : ℕ) (out : List ℕ) → Written start size xs out₀ out i → length xs ≤ i → length out₀ ≤ start + i * size → out ≡ take start out₀ ++ inTurn f xs
-    all-written i out w h n = w .same ∙ rw (take-all i xs h, drop-of-length-le out₀ n, append-nil)
+    all-written i out w h n = each-written i out w h ∙ rw (drop-of-length-le out₀ n, append-nil)
 
   -- what stands behind the first i entries begins with entry i
   pub turn-drop : (size : ℕ) (xs : List X) (i : ℕ) (d : X) → ((k : ℕ) → k < length xs → length (f (getD xs k d)) ≡ size) → i < length xs → drop (i * size) (inTurn f xs) ≡ f (getD xs i d) ++ inTurn f (drop (suc i) xs)

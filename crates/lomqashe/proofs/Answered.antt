@@ -1,6 +1,6 @@
 -- The calls' answers and bytes, from what the functions below them give. Assumes nothing.
 use Prim.Native.Nat.{ℕ, zero, suc, _^_, _≤_, _<_}
-use mathlib.Core.Path.{_≡_, refl, sym, ap, _∙_, subst⁻¹}
+use mathlib.Core.Path.{_≡_, refl, sym, ap, _∙_, subst, subst⁻¹}
 use mathlib.Core.Bool.{Bool, true, false}
 use mathlib.Core.List.{List, [], _∷_}
 use native.Mathlib.Nat.{zero-add}
@@ -8,6 +8,8 @@ use native.Mathlib.Omega.{arith}
 use borrow.Author.Tests.{lt-ltb, le-ltb}
 use lib.Dec.{eqb}
 use lib.ListN.{length}
+use mir.Syntax.{w8}
+use mir.Val.{SFits}
 use Rattle.laws.specs.Choice.{pick}
 use Rattle.laws.specs.Refusals.{Said, said}
 use Rattle.laws.proofs.Picks.{pick-equal, pick-unequal}
@@ -17,6 +19,7 @@ use Rattle.tune.specs.declared.opening.Opening.{Opening}
 use Rattle.s3m.specs.Layout.{countsOf}
 use Rattle.s3m.specs.Refusals.{measureRule}
 use Rattle.s3m.specs.Opening.{channelAt, openingOf}
+use Rattle.s3m.proofs.Opens.{read-untransposed}
 use Rattle.s3m.specs.Answers.{measured, measuredSays, refusalOf, reading, ordersAfter, samplesAfter, cellsAfter}
 use Rattle.s3m.specs.declared.header.Counts.{Counts}
 use Rattle.s3m.specs.declared.header.Measured.{Measured}
@@ -74,13 +77,13 @@ module _ (file counts : List ℕ) where
 
 -- Read
 module _ (file orders samples cells opening : List ℕ) where
-  pub read-wrong : (length opening ≡ 144 → ⊥) → readRefusal file orders samples cells opening ≡ wrong
+  pub read-wrong : (length opening ≡ 176 → ⊥) → readRefusal file orders samples cells opening ≡ wrong
   unfolding readRefusal
-  read-wrong h = pick-unequal (length opening) 144 (refusalOf file orders samples cells) wrong h
+  read-wrong h = pick-unequal (length opening) 176 (refusalOf file orders samples cells) wrong h
 
-  pub read-given : length opening ≡ 144 → readRefusal file orders samples cells opening ≡ refusalOf file orders samples cells
+  pub read-given : length opening ≡ 176 → readRefusal file orders samples cells opening ≡ refusalOf file orders samples cells
   unfolding readRefusal
-  read-given h = pick-equal (length opening) 144 (refusalOf file orders samples cells) wrong h
+  read-given h = pick-equal (length opening) 176 (refusalOf file orders samples cells) wrong h
 
 pub kept-orders : (file orders : List ℕ) → orders ≡ ordersAfter file wrong orders
 unfolding ordersAfter
@@ -115,7 +118,12 @@ read-opening file rate rule opening g e = ap (λ (g : Reading). openingBy (g .an
 -- the bytes that it leaves say the opening values that it gives
 opening-typed : (file : List ℕ) (rate : ℕ) → rate < 2 ^ 32 → TypedOpening (openingOf file rate)
 unfolding openingOf
-opening-typed file rate h = record { rate = h; count = length-pieces (λ k. channelAt file k ∷ []) 1 (λ k. refl) 32 }
+opening-typed file rate h =
+    record {
+      rate = h;
+      count = length-pieces (λ k. channelAt file k ∷ []) 1 (λ k. refl) 32;
+      each = λ d k b. subst (SFits w8) (sym (read-untransposed file rate k d b)) (record { sfits = omega arith });
+    }
 
 pub opening-said : (file : List ℕ) (rate rule : ℕ) (opening : List ℕ) {after : List ℕ} → rate < 2 ^ 32 → after ≡ openingAfter file rate rule opening → rule ≡ 0 → openingAt after ≡ openingOf file rate
 unfolding openingAfter
@@ -128,14 +136,14 @@ module _ (f : Opening → ℕ) (opening state : List ℕ) where
   abbrev refusal : ℕ
   refusal = openedRefusal (f (openingAt opening)) opening state
 
-  no-opening : (length opening ≡ 144 → ⊥) → refusal ≡ wrong
-  no-opening h = pick-unequal (length opening) 144 _ wrong h
+  no-opening : (length opening ≡ 176 → ⊥) → refusal ≡ wrong
+  no-opening h = pick-unequal (length opening) 176 _ wrong h
 
-  no-state : length opening ≡ 144 → (length state ≡ 2624 → ⊥) → refusal ≡ wrong
-  no-state h k = pick-equal (length opening) 144 _ wrong h ∙ pick-unequal (length state) 2624 (f (openingAt opening)) wrong k
+  no-state : length opening ≡ 176 → (length state ≡ 2624 → ⊥) → refusal ≡ wrong
+  no-state h k = pick-equal (length opening) 176 _ wrong h ∙ pick-unequal (length state) 2624 (f (openingAt opening)) wrong k
 
-  by-rules : length opening ≡ 144 → length state ≡ 2624 → refusal ≡ f (openingAt opening)
-  by-rules h k = pick-equal (length opening) 144 _ wrong h ∙ pick-equal (length state) 2624 (f (openingAt opening)) wrong k
+  by-rules : length opening ≡ 176 → length state ≡ 2624 → refusal ≡ f (openingAt opening)
+  by-rules h k = pick-equal (length opening) 176 _ wrong h ∙ pick-equal (length state) 2624 (f (openingAt opening)) wrong k
 
   -- what these calls answer and leave: r and b
   pub record OpenedBytes (r : ℕ) (b : List ℕ) : Type 0 where
@@ -152,13 +160,13 @@ module _ (f : Opening → ℕ) (opening state : List ℕ) where
         kept = λ z. absurd (omega (arith, e, z));
       }
 
-  pub opening-wrong : (length opening ≡ 144 → ⊥) → OpenedBytes (answerOf wrong 0) state
+  pub opening-wrong : (length opening ≡ 176 → ⊥) → OpenedBytes (answerOf wrong 0) state
   opening-wrong h = wrong-bytes (no-opening h)
 
-  pub state-wrong : length opening ≡ 144 → (length state ≡ 2624 → ⊥) → OpenedBytes (answerOf wrong 0) state
+  pub state-wrong : length opening ≡ 176 → (length state ≡ 2624 → ⊥) → OpenedBytes (answerOf wrong 0) state
   state-wrong h k = wrong-bytes (no-state h k)
 
-  module _ (h : length opening ≡ 144) (k : length state ≡ 2624) (o : Opening) (g : Opened) (eo : o ≡ openingAt opening) (eg : g ≡ openedBy (f o) o) where
+  module _ (h : length opening ≡ 176) (k : length state ≡ 2624) (o : Opening) (g : Opened) (eo : o ≡ openingAt opening) (eg : g ≡ openedBy (f o) o) where
     by-bytes-opened : g ≡ openedBy refusal (openingAt opening)
     by-bytes-opened = eg ∙ ap (λ (o : Opening). openedBy (f o) o) eo ∙ ap (λ (r : ℕ). openedBy r (openingAt opening)) (sym (by-rules h k))
 

@@ -1,58 +1,85 @@
 -- Opening values that are written and read are the same. Assumes nothing.
-use Prim.Native.Nat.{ℕ, _+_, _*_, _<_}
-use mathlib.Core.Path.{_≡_, refl, sym, ap, _∙_}
+use Prim.Native.Nat.{ℕ, suc, _+_, _*_, _<_}
+use mathlib.Core.Path.{_≡_, refl, sym, ap, ap₂, _∙_}
 use mathlib.Core.Bool.{Bool}
-use mathlib.Core.List.{List, [], _++_}
+use mathlib.Core.List.{List, [], _++_, map, append-assoc}
 use native.Mathlib.Nat.{add-zero}
-use lib.ListN.{length, getD, drop, length-append}
-use lib.Seq.{drop-at, drop-drop, getD-drop}
+use native.Mathlib.Omega.{arith}
+use lib.ListN.{length, getD, drop, length-append, length-map}
+use lib.Seq.{drop-at, drop-drop, drop-append-le, getD-drop}
 use Rattle.laws.specs.Entries.{tabulate, inTurn}
+use mir.Syntax.{w8}
+use mir.Val.{SFits}
+use Rattle.laws.proofs.Maps.{mapped-at}
 use Rattle.laws.proofs.Turns.{turn-drop, turn-length, tabulated}
 use Rattle.tune.proofs.Little.{little-back}
 use Rattle.tune.specs.Numbers.{littleAt, bytesOf}
+use Rattle.tune.specs.Transposition.{signedOf}
 use Rattle.tune.specs.declared.opening.ChannelOpening.{ChannelOpening}
 use Rattle.tune.specs.declared.opening.Opening.{Opening}
 use Rattle.lomqashe.specs.Bytes.{isSet}
-use Rattle.lomqashe.specs.Openings.{settingBytes, settingAt, levelBytes, openingBytes, openingAt}
+use Rattle.lomqashe.specs.Openings.{settingBytes, transpositionByte, fixedAt, settingAt, levelBytes, openingBytes, openingAt}
 use Rattle.lomqashe.specs.Typed.{TypedOpening}
-use Rattle.lomqashe.proofs.ChannelKept.{flag-kept}
+use Rattle.lomqashe.proofs.ChannelKept.{flag-kept, fixed-kept}
 use Rattle.lomqashe.proofs.Lengths.{level-length}
 
-abbrev setting : ℕ → Bool → Bool → Bool → ChannelOpening
-setting pan muted right adlib = record { pan = pan; muted = muted; «right_bank» = right; adlib = adlib }
+-- a channel from its four bytes and its transposition
+abbrev setting : List ℕ → ℕ → ChannelOpening
+setting s t =
+    record { pan = getD s 0 0; fixed = record { muted = isSet (getD s 1 0); «right_bank» = isSet (getD s 2 0); adlib = isSet (getD s 3 0); transposition = signedOf t } }
 
-setting-read : (p : ℕ) {a b c x y z : Bool} → a ≡ x → b ≡ y → c ≡ z → setting p a b c ≡ setting p x y z
-setting-read p a b c = rw (a, b, c)
+setting-kept : (c : ChannelOpening) (rest : List ℕ) → SFits w8 (c .fixed .transposition) → setting (settingBytes c ++ rest) (transpositionByte c) ≡ c
+unfolding settingBytes transpositionByte
+setting-kept c rest h = λ i. record { pan = c .pan; fixed = sym (fixed-kept (c .fixed) h) i }
 
-setting-kept : (c : ChannelOpening) (rest : List ℕ) → settingAt (settingBytes c ++ rest) 0 ≡ c
-unfolding settingBytes settingAt
-setting-kept c rest = sym (setting-read (c .pan) (flag-kept (c .muted)) (flag-kept (c .«right_bank»)) (flag-kept (c .adlib)))
-
--- a channel at a place is the one at 0 behind it
-setting-behind : (s : List ℕ) (at : ℕ) → settingAt s at ≡ settingAt (drop at s) 0
-unfolding settingAt
-setting-behind s at = rw (getD-drop at s 0 0, getD-drop at s 1 0, getD-drop at s 2 0, getD-drop at s 3 0, add-zero)
+-- a channel's four bytes at a place are those at 0 behind it
+setting-behind : (s : List ℕ) (at t : ℕ) → settingAt s at t ≡ setting (drop at s) (getD s t 0)
+unfolding settingAt fixedAt
+setting-behind s at t = rw (getD-drop at s 0 0, getD-drop at s 1 0, getD-drop at s 2 0, getD-drop at s 3 0, add-zero)
 
 none : ChannelOpening
-none = settingAt [] 0
+none = settingAt [] 0 0
 
 sized : (c : ChannelOpening) → length (settingBytes c) ≡ 4
 unfolding settingBytes
 sized c = refl
 
-part-kept : (o : Opening) (k : ℕ) → k < length (o .channels) → settingAt (openingBytes o) (16 + k * 4) ≡ getD (o .channels) k none
+pub settings-size : (cs : List ChannelOpening) → length cs ≡ 32 → length (inTurn settingBytes cs) ≡ 128
+settings-size cs n = turn-length settingBytes 4 cs none (λ k b. sized (getD cs k none)) ∙ rw n
+
+-- channel k's four bytes stand at 16 + k × 4
+four-kept : (o : Opening) → TypedOpening o → (k : ℕ) → k < length (o .channels)
+    → drop (16 + k * 4) (openingBytes o) ≡ settingBytes (getD (o .channels) k none) ++ (inTurn settingBytes (drop (suc k) (o .channels)) ++ map transpositionByte (o .channels))
 unfolding openingBytes
-part-kept o k b =
+four-kept o h k b =
     let l = levelBytes o in
     let v = inTurn settingBytes (o .channels) in
-    setting-behind (l ++ v) (16 + k * 4)
-    ∙ ap (λ (z : List ℕ). settingAt z 0)
-    (sym (drop-drop (k * 4) 16 (l ++ v))
-    ∙ ap (drop (k * 4)) (drop-at l v 16 (level-length o))
-    ∙ turn-drop settingBytes 4 (o .channels) k none (λ k b. sized (getD (o .channels) k none)) b)
-    ∙ setting-kept (getD (o .channels) k none) _
+    let t = map transpositionByte (o .channels) in
+    sym (drop-drop (k * 4) 16 (l ++ (v ++ t)))
+    ∙ ap (drop (k * 4)) (drop-at l (v ++ t) 16 (level-length o))
+    ∙ drop-append-le (k * 4) v t (omega (arith, settings-size (o .channels) (h .count), h .count, b))
+    ∙ ap (λ (z : List ℕ). z ++ t) (turn-drop settingBytes 4 (o .channels) k none (λ k b. sized (getD (o .channels) k none)) b)
+    ∙ append-assoc (settingBytes (getD (o .channels) k none)) _ t
 
-opening-read : (s : List ℕ) {rate : ℕ} {amiga fast : Bool} {cs : List ChannelOpening} → rate ≡ littleAt 4 s 8 → amiga ≡ isSet (getD s 3 0) → fast ≡ isSet (getD s 4 0) → cs ≡ tabulate 32 (λ i. settingAt s (16 + i * 4))
+-- its transposition at 144 + k
+one-kept : (o : Opening) → TypedOpening o → (k : ℕ) → k < length (o .channels) → getD (openingBytes o) (144 + k) 0 ≡ transpositionByte (getD (o .channels) k none)
+unfolding openingBytes
+one-kept o h k b =
+    let l = levelBytes o in
+    let v = inTurn settingBytes (o .channels) in
+    let t = map transpositionByte (o .channels) in
+    let n : length (l ++ v) ≡ 144 = length-append l v ∙ rw (level-length o, settings-size (o .channels) (h .count)) in
+    sym (getD-drop 144 (l ++ (v ++ t)) k 0)
+    ∙ ap (λ (z : List ℕ). getD z k 0) (ap (drop 144) (sym (append-assoc l v t)) ∙ drop-at (l ++ v) t 144 n)
+    ∙ mapped-at transpositionByte (o .channels) k none 0 b
+
+part-kept : (o : Opening) → TypedOpening o → (k : ℕ) → k < length (o .channels) → settingAt (openingBytes o) (16 + k * 4) (144 + k) ≡ getD (o .channels) k none
+part-kept o h k b =
+    setting-behind (openingBytes o) (16 + k * 4) (144 + k)
+    ∙ ap₂ setting (four-kept o h k b) (one-kept o h k b)
+    ∙ setting-kept (getD (o .channels) k none) _ (h .each none k b)
+
+opening-read : (s : List ℕ) {rate : ℕ} {amiga fast : Bool} {cs : List ChannelOpening} → rate ≡ littleAt 4 s 8 → amiga ≡ isSet (getD s 3 0) → fast ≡ isSet (getD s 4 0) → cs ≡ tabulate 32 (λ i. settingAt s (16 + i * 4) (144 + i))
     → record { speed = getD s 0 0; tempo = getD s 1 0; «global_volume» = getD s 2 0; rate = rate; «amiga_limits» = amiga; «fast_slides» = fast; channels = cs } ≡ openingAt s
 unfolding openingAt
 opening-read s a b c d = rw (a, b, c, d)
@@ -66,11 +93,11 @@ opening-kept o h =
     (little-back 4 s _ 8 (o .rate) (h .rate) refl)
     (flag-kept (o .«amiga_limits»))
     (flag-kept (o .«fast_slides»))
-    (sym (ap (λ (n : ℕ). tabulate n (λ i. settingAt s (16 + i * 4))) (sym (h .count)) ∙ tabulated (λ i. settingAt s (16 + i * 4)) (o .channels) none (part-kept o))))
+    (sym (ap (λ (n : ℕ). tabulate n (λ i. settingAt s (16 + i * 4) (144 + i))) (sym (h .count)) ∙ tabulated (λ i. settingAt s (16 + i * 4) (144 + i)) (o .channels) none (part-kept o h))))
 
--- they have 144 bytes
-pub opening-size : (o : Opening) → TypedOpening o → length (openingBytes o) ≡ 144
+-- they have 176 bytes
+pub opening-size : (o : Opening) → TypedOpening o → length (openingBytes o) ≡ 176
 unfolding openingBytes
 opening-size o h =
-    length-append (levelBytes o) (inTurn settingBytes (o .channels))
-    ∙ rw (level-length o, turn-length settingBytes 4 (o .channels) none (λ k b. sized (getD (o .channels) k none)), h .count)
+    length-append (levelBytes o) (inTurn settingBytes (o .channels) ++ map transpositionByte (o .channels))
+    ∙ rw (level-length o, length-append, settings-size (o .channels) (h .count), length-map (o .channels) transpositionByte, h .count)

@@ -5,24 +5,26 @@ use mathlib.Core.List.{List}
 use native.Mathlib.Omega.{arith}
 use lib.Ieee.{binary32, binary64}
 use lib.Ieee.Bits.{ofBits-fits}
-use lib.ListN.{length, take, drop}
+use lib.ListN.{length, getD, take, drop}
 use Rattle.laws.proofs.Parts.{cut-length}
 use Rattle.laws.proofs.Pieces.{length-tabulate, tabulate-each}
 use Rattle.tune.specs.Numbers.{littleAt, Bytes}
 use Rattle.tune.proofs.Little.{little-small}
-use Rattle.lomqashe.specs.Channels.{channelOf}
+use Rattle.tune.proofs.Signed.{signed-fits}
+use Rattle.lomqashe.specs.Channels.{fixedOf, channelOf}
 use Rattle.lomqashe.specs.States.{pathOf, stateBytes, stateOf}
 use Rattle.lomqashe.specs.Typed.{TypedChannel, Typed}
 use Rattle.lomqashe.proofs.StateKept.{state-kept}
 
 channel-typed : (s : List ℕ) → length s ≡ 80 → TypedChannel (channelOf s)
-unfolding channelOf
+unfolding channelOf fixedOf
 channel-typed s h =
     record {
       frequency = ofBits-fits binary32 (littleAt 4 s 0);
       target = ofBits-fits binary32 (littleAt 4 s 4);
       position = ofBits-fits binary64 (littleAt 8 s 8);
       memory = cut-length 32 48 s (omega (arith, h));
+      transposition = signed-fits (getD s 45 0);
     }
 
 -- the state that 2,624 bytes say

@@ -2,7 +2,8 @@
 -- 17 volume, 18 pan, 19 active, 20 command, 21 info, 22 vibrato position, 23 tremolo position, 24 last note, 25 delay present,
 -- 26 to 29 its tick, note, instrument and volume, 30 glissando, 31 vibrato and 32 tremolo waveform, 33 retrig counter, 34 and 35
 -- tremor on and off counters, 36 stored volume, 37 and 38 vibrato and tremolo kept over a new note, 39 muted, 40 frozen, 41 right
--- bank, 42 AdLib, 43 AdLib voice, 44 voice global volume, 45 to 47 spare, 48 to 79 effect memory. Assumes nothing.
+-- bank, 42 AdLib, 43 AdLib voice, 44 voice global volume, 45 transposition, a signed byte, 46 and 47 spare, 48 to 79 effect
+-- memory. Assumes nothing.
 use Prim.Native.Nat.{ℕ, _+_, _%_}
 use mathlib.Core.List.{List, [], _∷_, _++_}
 use lib.Dec.{eqb}
@@ -10,7 +11,10 @@ use lib.Ieee.{binary32, binary64, ofBits, toBits}
 use lib.ListN.{getD, take, drop}
 use Rattle.laws.specs.Choice.{pick}
 use Rattle.tune.specs.Numbers.{littleAt, bytesOf, flag}
+use Rattle.tune.specs.Transposition.{signedByte, signedOf}
+use Rattle.tune.specs.declared.opening.Fixed.{Fixed}
 use Rattle.channel.specs.declared.state.Channel.{Channel}
+use Rattle.channel.specs.declared.state.Oscillator.{Oscillator}
 use Rattle.channel.specs.declared.state.TriggerOption.{TriggerOption}
 use Rattle.channel.specs.declared.state.TriggerOption.the-variants.{None, Some}
 use Rattle.channel.specs.declared.state.Waveform.{Waveform}
@@ -47,18 +51,33 @@ floatBytes c =
 -- bytes 16 to 47
 unfoldable pub fieldBytes : Channel → List ℕ
 fieldBytes c =
-    c .instrument ∷ c .volume ∷ c .pan ∷ flag (c .active) ∷ c .command ∷ c .info ∷ c .«vibrato_pos» ∷ c .«tremolo_pos» ∷ c .«last_note»
+    c .instrument ∷ c .volume ∷ c .pan ∷ flag (c .active) ∷ c .command ∷ c .info ∷ c .vibrato .pos ∷ c .tremolo .pos ∷ c .«last_note»
     ∷ (delayBytes (c .«pending_delay»)
-    ++ (flag (c .glissando) ∷ waveformByte (c .«vibrato_waveform») ∷ waveformByte (c .«tremolo_waveform»)
-    ∷ c .«retrig_counter» ∷ c .«tremor_on_counter» ∷ c .«tremor_off_counter» ∷ c .«stored_volume»
-    ∷ flag (c .«keep_vibrato_pos_on_new_note») ∷ flag (c .«keep_tremolo_pos_on_new_note»)
-    ∷ flag (c .muted) ∷ flag (c .frozen) ∷ flag (c .«right_bank») ∷ flag (c .adlib)
-    ∷ c .«opl_voice» ∷ c .«voice_global_vol» ∷ 0 ∷ 0 ∷ 0 ∷ []))
+    ++ (flag (c .glissando) ∷ waveformByte (c .vibrato .waveform) ∷ waveformByte (c .tremolo .waveform)
+    ∷ c .«retrig_counter» ∷ c .tremor .«on_counter» ∷ c .tremor .«off_counter» ∷ c .«stored_volume»
+    ∷ flag (c .vibrato .«keep_pos_on_new_note») ∷ flag (c .tremolo .«keep_pos_on_new_note»)
+    ∷ flag (c .fixed .muted) ∷ flag (c .frozen) ∷ flag (c .fixed .«right_bank») ∷ flag (c .fixed .adlib)
+    ∷ c .«opl_voice» ∷ c .«voice_global_vol» ∷ signedByte (c .fixed .transposition) ∷ 0 ∷ 0 ∷ []))
 
 unfoldable pub channelBytes : Channel → List ℕ
 channelBytes c = floatBytes c ++ (fieldBytes c ++ c .«effect_memory»)
 
--- what 80 bytes say; a NaN's bits, whichever, are the one NaN
+-- what 80 bytes say of the vibrato (0) and the tremolo (1)
+unfoldable pub oscillatorOf : List ℕ → ℕ → Oscillator
+oscillatorOf s k =
+    record { pos = getD s (22 + k) 0; waveform = waveformOf (getD s (31 + k) 0); «keep_pos_on_new_note» = isSet (getD s (37 + k) 0) }
+
+-- of what no row changes
+unfoldable pub fixedOf : List ℕ → Fixed
+fixedOf s =
+    record {
+      muted = isSet (getD s 39 0);
+      «right_bank» = isSet (getD s 41 0);
+      adlib = isSet (getD s 42 0);
+      transposition = signedOf (getD s 45 0);
+    }
+
+-- and of the channel; a NaN's bits, whichever, are the one NaN
 unfoldable pub channelOf : List ℕ → Channel
 channelOf s =
     record {
@@ -71,24 +90,17 @@ channelOf s =
       «target_frequency» = ofBits binary32 (littleAt 4 s 4);
       command = getD s 20 0;
       info = getD s 21 0;
-      «vibrato_pos» = getD s 22 0;
-      «tremolo_pos» = getD s 23 0;
+      vibrato = oscillatorOf s 0;
+      tremolo = oscillatorOf s 1;
       «last_note» = getD s 24 0;
       «pending_delay» = delayAt s 25;
       glissando = isSet (getD s 30 0);
-      «vibrato_waveform» = waveformOf (getD s 31 0);
-      «tremolo_waveform» = waveformOf (getD s 32 0);
       «retrig_counter» = getD s 33 0;
-      «tremor_on_counter» = getD s 34 0;
-      «tremor_off_counter» = getD s 35 0;
+      tremor = record { «on_counter» = getD s 34 0; «off_counter» = getD s 35 0 };
       «stored_volume» = getD s 36 0;
-      «keep_vibrato_pos_on_new_note» = isSet (getD s 37 0);
-      «keep_tremolo_pos_on_new_note» = isSet (getD s 38 0);
       «effect_memory» = take 32 (drop 48 s);
-      muted = isSet (getD s 39 0);
       frozen = isSet (getD s 40 0);
-      «right_bank» = isSet (getD s 41 0);
-      adlib = isSet (getD s 42 0);
+      fixed = fixedOf s;
       «opl_voice» = getD s 43 0;
       «voice_global_vol» = getD s 44 0;
     }

@@ -2,14 +2,14 @@
 // instrument, 17 volume, 18 pan, 19 active, 20 command, 21 info, 22 vibrato position, 23 tremolo position, 24 last note,
 // 25 delay present, 26 to 29 its tick, note, instrument and volume, 30 glissando, 31 vibrato and 32 tremolo waveform, 33
 // retrig counter, 34 and 35 tremor on and off counters, 36 stored volume, 37 and 38 vibrato and tremolo kept over a new
-// note, 39 muted, 40 frozen, 41 right bank, 42 AdLib, 43 AdLib voice, 44 voice global volume, 45 to 47 spare, 48 to 79
-// effect memory.
+// note, 39 muted, 40 frozen, 41 right bank, 42 AdLib, 43 AdLib voice, 44 voice global volume, 45 transposition, a
+// signed byte, 46 and 47 spare, 48 to 79 effect memory.
 ghost use mathlib.Core.Path.{_≡_};
 ghost use Prim.Native.Nat.{_+_, _*_, _≤_};
 ghost use mathlib.Core.List.{_++_};
 ghost use lib.ListN.{length, take, drop};
 ghost use Rattle.laws.specs.Entries.{tabulate, inTurn};
-ghost use Rattle.lomqashe.specs.Channels.{waveformByte, waveformOf, delayBytes, delayAt, floatBytes, fieldBytes, channelBytes, channelOf};
+ghost use Rattle.lomqashe.specs.Channels.{waveformByte, waveformOf, delayBytes, delayAt, floatBytes, fieldBytes, channelBytes, oscillatorOf, fixedOf, channelOf};
 use crate::floats::double_bits;
 use crate::floats::double_of;
 use crate::floats::single_bits;
@@ -18,7 +18,9 @@ use crate::numbers::bytes_at;
 use crate::numbers::is_set;
 use crate::numbers::put_block;
 use channel::state::Channel;
+use channel::state::Oscillator;
 use channel::state::PendingTrigger;
+use channel::state::Tremor;
 use channel::state::TriggerOption;
 use channel::state::Waveform;
 use tune::numbers::flag_of;
@@ -26,7 +28,10 @@ use tune::numbers::u32_at;
 use tune::numbers::u32_bytes;
 use tune::numbers::u64_at;
 use tune::numbers::u64_bytes;
+use tune::opening::Fixed;
 use tune::parts::put_at;
+use tune::transposition::signed_byte;
+use tune::transposition::signed_of;
 
 // 0 sine, 1 ramp down, 2 square, 3 random.
 fn waveform_byte(w: Waveform) -> u8
@@ -109,8 +114,11 @@ fn field_bytes(c: Channel) -> [u8; 32]
     ensures { λ r. ⌜ r ≡ fieldBytes c ⌝ }
 {
     let delay = c.pending_delay;
-    let vibrato = c.vibrato_waveform;
-    let tremolo = c.tremolo_waveform;
+    let vibrato = c.vibrato;
+    let tremolo = c.tremolo;
+    let vibrato_waveform = vibrato.waveform;
+    let tremolo_waveform = tremolo.waveform;
+    let fixed = c.fixed;
     let d = delay_bytes(delay);
     [
         c.instrument,
@@ -119,8 +127,8 @@ fn field_bytes(c: Channel) -> [u8; 32]
         flag_of(c.active),
         c.command,
         c.info,
-        c.vibrato_pos,
-        c.tremolo_pos,
+        vibrato.pos,
+        tremolo.pos,
         c.last_note,
         d[0],
         d[1],
@@ -128,21 +136,21 @@ fn field_bytes(c: Channel) -> [u8; 32]
         d[3],
         d[4],
         flag_of(c.glissando),
-        waveform_byte(vibrato),
-        waveform_byte(tremolo),
+        waveform_byte(vibrato_waveform),
+        waveform_byte(tremolo_waveform),
         c.retrig_counter,
-        c.tremor_on_counter,
-        c.tremor_off_counter,
+        c.tremor.on_counter,
+        c.tremor.off_counter,
         c.stored_volume,
-        flag_of(c.keep_vibrato_pos_on_new_note),
-        flag_of(c.keep_tremolo_pos_on_new_note),
-        flag_of(c.muted),
+        flag_of(vibrato.keep_pos_on_new_note),
+        flag_of(tremolo.keep_pos_on_new_note),
+        flag_of(fixed.muted),
         flag_of(c.frozen),
-        flag_of(c.right_bank),
-        flag_of(c.adlib),
+        flag_of(fixed.right_bank),
+        flag_of(fixed.adlib),
         c.opl_voice,
         c.voice_global_vol,
-        0,
+        signed_byte(fixed.transposition),
         0,
         0,
     ]
@@ -174,13 +182,43 @@ pub fn put_channels(state: &mut [u8], channels: [Channel; 32])
     }
 }
 
+// The vibrato (0) or the tremolo (1).
+fn oscillator_of(part: &[u8], k: usize) -> Oscillator
+    requires { ⌜ (length (now part) ≡ 80) × (k ≤ 1) ⌝ }
+    ensures { λ r. ⌜ r ≡ oscillatorOf (now (part .entry)) k ⌝ }
+{
+    Oscillator {
+        pos: part[22 + k],
+        waveform: waveform_of(part[31 + k]),
+        keep_pos_on_new_note: is_set(part[37 + k]),
+    }
+}
+
+// What no row changes.
+fn fixed_of(part: &[u8]) -> Fixed
+    requires { ⌜ length (now part) ≡ 80 ⌝ }
+    ensures { λ r. ⌜ r ≡ fixedOf (now (part .entry)) ⌝ }
+{
+    Fixed {
+        muted: is_set(part[39]),
+        right_bank: is_set(part[41]),
+        adlib: is_set(part[42]),
+        transposition: signed_of(part[45]),
+    }
+}
+
 fn channel_of(part: &[u8]) -> Channel
     requires { ⌜ length (now part) ≡ 80 ⌝ }
     ensures { λ r. ⌜ r ≡ channelOf (now (part .entry)) ⌝ }
 {
     let pending_delay = delay_of(part);
-    let vibrato_waveform = waveform_of(part[31]);
-    let tremolo_waveform = waveform_of(part[32]);
+    let vibrato = oscillator_of(part, 0);
+    let tremolo = oscillator_of(part, 1);
+    let tremor = Tremor {
+        on_counter: part[34],
+        off_counter: part[35],
+    };
+    let fixed = fixed_of(part);
     let effect_memory = bytes_at(part, 48);
     Channel {
         instrument: part[16],
@@ -192,24 +230,17 @@ fn channel_of(part: &[u8]) -> Channel
         target_frequency: single_of(u32_at(part, 4)),
         command: part[20],
         info: part[21],
-        vibrato_pos: part[22],
-        tremolo_pos: part[23],
+        vibrato,
+        tremolo,
         last_note: part[24],
         pending_delay,
         glissando: is_set(part[30]),
-        vibrato_waveform,
-        tremolo_waveform,
         retrig_counter: part[33],
-        tremor_on_counter: part[34],
-        tremor_off_counter: part[35],
+        tremor,
         stored_volume: part[36],
-        keep_vibrato_pos_on_new_note: is_set(part[37]),
-        keep_tremolo_pos_on_new_note: is_set(part[38]),
         effect_memory,
-        muted: is_set(part[39]),
         frozen: is_set(part[40]),
-        right_bank: is_set(part[41]),
-        adlib: is_set(part[42]),
+        fixed,
         opl_voice: part[43],
         voice_global_vol: part[44],
     }

@@ -113,7 +113,7 @@ pub extern "C" fn lomqashe_measure(file: &[u8], counts: &mut [u8]) -> u32
 }
 
 fn answer_read(answer: ReadAnswer, opening: &mut [u8], o: Opening) -> u32
-    requires { ⌜ length (now opening) ≡ 144 ⌝ }
+    requires { ⌜ length (now opening) ≡ 176 ⌝ }
     ensures answer { λ r. ⌜ r ≡ answerOf (readSays answer o .number) 0 ⌝ }
     ensures written { λ _. ⌜ now (opening .exit) ≡ openingBy answer o (now (opening .entry)) ⌝ }
 {
@@ -126,7 +126,7 @@ fn answer_read(answer: ReadAnswer, opening: &mut [u8], o: Opening) -> u32
     }
 }
 
-// Read: the three tables, and the opening values in 144 bytes.
+// Read: the three tables, and the opening values in 176 bytes.
 #[no_mangle]
 pub extern "C" fn lomqashe_read(
     file: &[u8],
@@ -143,7 +143,7 @@ pub extern "C" fn lomqashe_read(
     ensures opening { λ _. ⌜ now (opening .exit) ≡ openingAfter (now (file .entry)) rate (readRefusal (now (file .entry)) (now (orders .entry)) (now (samples .entry)) (now (cells .entry)) (now (opening .entry))) (now (opening .entry)) ⌝ }
     ensures kept { λ _. ⌜ (readRefusal (now (file .entry)) (now (orders .entry)) (now (samples .entry)) (now (cells .entry)) (now (opening .entry)) ≡ 0 → openingAt (now (opening .exit)) ≡ openingOf (now (file .entry)) rate) ⌝ }
 {
-    if opening.len() != 144 {
+    if opening.len() != 176 {
         return WRONG;
     }
     let given = read(file, rate, orders, samples, cells);
@@ -180,7 +180,7 @@ pub extern "C" fn lomqashe_open(
     ensures written { λ _. ⌜ now (state .exit) ≡ stateOpened (now (opening .entry)) (openRefusal (lent (now (orders .entry)) (now (cells .entry)) (now (samples .entry))) (now (opening .entry)) (now (state .entry))) (now (state .entry)) ⌝ }
     ensures kept { λ _. ⌜ (openRefusal (lent (now (orders .entry)) (now (cells .entry)) (now (samples .entry))) (now (opening .entry)) (now (state .entry)) ≡ 0 → stateOf (now (state .exit)) ≡ freshState (openingAt (now (opening .entry)))) ⌝ }
 {
-    if opening.len() != 144 {
+    if opening.len() != 176 {
         return WRONG;
     }
     if state.len() != 2624 {
@@ -216,7 +216,7 @@ pub extern "C" fn lomqashe_open_closed(
     ensures ends { λ _. ⌜ (openClosedRefusal (lent (now (orders .entry)) (now (cells .entry)) (now (samples .entry))) (now (opening .entry)) (now (state .entry)) ≡ 0
         → let t = lent (now (orders .entry)) (now (cells .entry)) (now (samples .entry)) in EndsWithin (mostRows t) t (stateOf (now (state .exit)))) ⌝ }
 {
-    if opening.len() != 144 {
+    if opening.len() != 176 {
         return WRONG;
     }
     if state.len() != 2624 {

@@ -28,13 +28,13 @@ use Rattle.noninterference.specs.Machines.{opened, pathOf, machineRecord
 use Rattle.noninterference.specs.Kept.{Lesser, AtCall, Faithful}
 
 -- a choice whose test is known
-yes-is : {X : Type 0} (b : Bool) (x y : X) → b ≡ true → pick b x y ≡ x
+pub yes-is : {X : Type 0} (b : Bool) (x y : X) → b ≡ true → pick b x y ≡ x
 yes-is b x y e = rw e
 
 no-is : {X : Type 0} (b : Bool) (x y : X) → b ≡ false → pick b x y ≡ y
 no-is b x y e = rw e
 
-T-yes : (b : Bool) → T b → b ≡ true
+pub T-yes : (b : Bool) → T b → b ≡ true
 T-yes true h = refl
 T-yes false h = absurd h
 

@@ -1,17 +1,21 @@
 -- Two tunes that demand 3 speaks of: its premises can be met. Assumes nothing.
 use Prim.Native.Nat.{ℕ, zero, suc, _+_, _*_, _^_, _≤_, _<_}
 use mathlib.Core.Path.{_≡_, refl, sym, ap, _∙_}
+use mathlib.Core.Bool.{false}
 use mathlib.Core.Logic.{_≢_}
 use mathlib.Core.List.{List, [], _∷_}
 use native.Mathlib.Omega.{arith}
 use native.Mathlib.Nat.{add-zero}
 use lib.Dec.{eqb, eqb→eq}
+use lib.IntN.{pos, natAbs}
 use lib.ListN.{length, getD, set, length-set}
 use lib.Seq.{getD-set-other}
+use Rattle.laws.specs.Entries.{mapFrom}
 use Rattle.laws.specs.Refusals.{orElse}
 use Rattle.tune.specs.Sizes.{rule9}
 use Rattle.tune.specs.Cells.{rowPlace, cellAt, rowCells, cellOf}
-use Rattle.tune.specs.Opening.{rule10}
+use Rattle.tune.specs.Opening.{rule10, blankChannel}
+use Rattle.tune.specs.declared.opening.Opening.{Opening}
 use Rattle.row_path.specs.First.{firstPath}
 use Rattle.row_path.specs.Orders.{skipFrom, skipped, patternAt}
 use Rattle.row_path.specs.Scan.{heard, scanned, firstScan}
@@ -33,7 +37,7 @@ use Rattle.section.specs.Tables.{Tune}
 use Rattle.section.specs.Open.{freshState, openRule}
 use Rattle.section.specs.Section.{Answer, Refused, Gave}
 use Rattle.section.specs.Ordinary.{ordinary}
-use Rattle.noninterference.specs.Revoiced.{Revoiced, Lent}
+use Rattle.noninterference.specs.Revoiced.{transposedIn, Revoiced, Lent}
 use Rattle.noninterference.specs.Calls.{Call, answersOf, sizeGiven, sizesGiven}
 use Rattle.noninterference.specs.Machines.{opened, pathOf, machineRecords}
 use Rattle.noninterference.specs.Kept.{strikeIn, Kept}
@@ -57,8 +61,25 @@ samples = 1 ∷ 64 ∷ 0 ∷ 0 ∷ 0 ∷ 16 ∷ 0 ∷ 0 ∷ 0 ∷ 0 ∷ 0 ∷ 0 
 abbrev pub first : Tune
 first = record { tables = record { orders = 0 ∷ []; cells = plain; samples = samples }; opening = ordinary }
 
+-- the ordinary opening values, with channel 1 seven semitones up
+abbrev pub raised : Opening
+raised =
+    record {
+      speed = ordinary .speed;
+      tempo = ordinary .tempo;
+      «global_volume» = ordinary .«global_volume»;
+      rate = ordinary .rate;
+      «amiga_limits» = ordinary .«amiga_limits»;
+      «fast_slides» = ordinary .«fast_slides»;
+      channels = set (ordinary .channels) 1 (record { pan = 8; fixed = record { muted = false; «right_bank» = false; adlib = false; transposition = pos 7 } });
+    }
+
 abbrev pub second : Tune
-second = record { tables = record { orders = 0 ∷ []; cells = voiced; samples = samples }; opening = ordinary }
+second = record { tables = record { orders = 0 ∷ []; cells = voiced; samples = samples }; opening = raised }
+
+-- their opening values differ
+pub openings-differ : first .opening ≢ second .opening
+openings-differ e = omega (arith, ap (λ (o : Opening). natAbs (getD (o .channels) 1 blankChannel .fixed .transposition)) e)
 
 empty-length : (n : ℕ) → length (empty n) ≡ n * 5
 unfolding empty
@@ -121,7 +142,7 @@ second-lent =
 
 -- channel 0's cells are equal, and elsewhere all commands and infos
 pub revoiced : Revoiced (eqb 0) first second
-unfolding cellAt
+unfolding cellAt transposedIn mapFrom
 revoiced =
     record {
       orders = refl;

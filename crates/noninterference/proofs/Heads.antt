@@ -1,12 +1,12 @@
 -- However the other channels are re-voiced, the punch head does the same for each channel of a set. Assumes nothing.
-use Prim.Native.Nat.{ℕ, zero, suc, _≤_, _<_}
+use Prim.Native.Nat.{ℕ, _≤_, _<_}
 use mathlib.Core.Path.{_≡_, refl, sym, ap, _∙_, subst}
 use mathlib.Core.Bool.{Bool, true, false}
 use mathlib.Core.List.{List, [], _∷_, _++_, map, append-assoc, map-append}
 use native.Mathlib.Omega.{arith}
 use borrow.Author.Tests.{ltb-true, ltb-false}
 use lib.Dec.{T, ltb}
-use lib.ListN.{length, getD, take, drop, length-map, List·getD-eq-default}
+use lib.ListN.{length, getD, take, drop, length-map, List·getD-eq-default, List·getD-map}
 use lib.Seq.{take-add, take-at, drop-at, length-take-le}
 use Rattle.laws.proofs.Parts.{cut-length}
 use Rattle.section.specs.declared.state.Opened.{Opened}
@@ -28,16 +28,11 @@ use Rattle.noninterference.specs.Heads.{Drive, sheetOf, callsOn, HeadsKe
 use Rattle.noninterference.proofs.Views.{opened-channels}
 use Rattle.noninterference.proofs.Theorem.{channels-kept, made-kept, opened-lent}
 
--- a view of joined lists is the joined views, and a view's entry is that of the entry
+-- a view of joined lists is the joined views
 joined-map : {X Y Z : Type 0} (f : Y → Z) (g : X → List Y) (xs : List X) → joined (map (λ x. map f (g x)) xs) ≡ map f (joined (map g xs))
 unfolding joined
 joined-map f g [] = refl
 joined-map f g (x ∷ xs) = ap (λ l. map f (g x) ++ l) (joined-map f g xs) ∙ sym (map-append f (g x) (joined (map g xs)))
-
-entry-map : {X Z : Type 0} (f : X → Z) (l : List X) (i : ℕ) (d : X) → getD (map f l) i (f d) ≡ f (getD l i d)
-entry-map f [] i d = refl
-entry-map f (x ∷ l) zero d = refl
-entry-map f (x ∷ l) (suc i) d = entry-map f l i d
 
 -- a record's start stands in its head
 start-in : (r : List ℕ) → length r ≡ 536 → rowStart r ≡ take 8 (drop 8 (headIn r))
@@ -68,7 +63,7 @@ module _ (chosen : ℕ → Bool) (A B : Tune) (cs ds : List Call) (xs ys : List 
   sheets-alike f e = sym (joined-map f recordsIn xs) ∙ ap joined e ∙ joined-map f recordsIn ys
 
   entry-alike : {Z : Type 0} (f : List ℕ → Z) → map (λ x. map f (recordsIn x)) xs ≡ map (λ x. map f (recordsIn x)) ys → (i : ℕ) → f (getD (sheetOf xs) i []) ≡ f (getD (sheetOf ys) i [])
-  entry-alike f e i = sym (entry-map f (sheetOf xs) i []) ∙ ap (λ l. getD l i (f [])) (sheets-alike f e) ∙ entry-map f (sheetOf ys) i []
+  entry-alike f e i = sym (List·getD-map f (sheetOf xs) i []) ∙ ap (λ l. getD l i (f [])) (sheets-alike f e) ∙ List·getD-map f (sheetOf ys) i []
 
   count-alike : length (sheetOf xs) ≡ length (sheetOf ys)
   count-alike = sym (length-map (sheetOf xs) headIn) ∙ ap length (sheets-alike headIn (same .heads)) ∙ length-map (sheetOf ys) headIn

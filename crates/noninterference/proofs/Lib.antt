@@ -2,6 +2,7 @@ pub mod Dealt
 pub mod Cells
 pub mod Bytes
 pub mod Together
+pub mod Openings
 pub mod Views
 pub mod MadeCalls
 pub mod Theorem

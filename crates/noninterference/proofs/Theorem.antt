@@ -31,14 +31,14 @@ unfolding openRule
 cells-whole u o = sized (u .tables .orders) (u .tables .cells) (u .tables .samples) (sound _ _ o .0) .patterns-whole
 
 -- However the other channels are re-voiced, each channel of a set stays the same. Let two tunes that Open accepts have equal
--- orders, samples and opening values, cells of equal length, equal cells in the set's channels, and elsewhere equal command
--- and info wherever either has A, B, C, S, T or V. Open both and make any one list of Section calls, each on the state that
--- the last one gave back, where the sizes not refused come to at most 2^32. Both give the same row counts, endings and
--- refusals, the same row heads without the strike masks, and for each channel of the set the same strike bits and the same
--- bytes in records and the same channel in states, and the same path in states. In each tune a call is refused exactly where rule 12 holds, as 12, with
--- the state it got; any other gives as many rows as its size or as the path machine still has, whichever is less: the next
--- that the path and the channel machine give from Open, with their ending and their state; all records joined are the first
--- of theirs, each once.
+-- orders and samples, equal opening values but for the other channels' transpositions, cells of equal length, equal cells in
+-- the set's channels, and elsewhere equal command and info wherever either has A, B, C, S, T or V. Open both and make any
+-- one list of Section calls, each on the state that the last one gave back, where the sizes not refused come to at most
+-- 2^32. Both give the same row counts, endings and refusals, the same row heads without the strike masks, and for each
+-- channel of the set the same strike bits and the same bytes in records and the same channel in states, and the same path in
+-- states. In each tune a call is refused exactly where rule 12 holds, as 12, with the state it got; any other gives as many
+-- rows as its size or as the path machine still has, whichever is less: the next that the path and the channel machine give
+-- from Open, with their ending and their state; all records joined are the first of theirs, each once.
 pub channels-kept : (chosen : ℕ → Bool) → ChannelsKept chosen
 channels-kept chosen A B cs lA lB oA oB R h =
     let few = few-granted A lA oA cs h in
@@ -46,7 +46,7 @@ channels-kept chosen A B cs lA lB oA oB R h =
     let eB = answers-shares B lB oB cs few in
     record {
       same = subst (λ (xs : List Answer). Same chosen xs (answersOf (B .tables) (opened B) cs)) (sym eA)
-          (subst (λ (ys : List Answer). Same chosen (shares A 0 cs) ys) (sym eB) (shares-same chosen A B (cells-whole A oA) R lA cs));
+          (subst (λ (ys : List Answer). Same chosen (shares A 0 cs) ys) (sym eB) (shares-same chosen A B (cells-whole A oA) R lA lB cs));
       first = subst (Faithful A cs) (sym eA) (shares-faithful A cs);
       second = subst (Faithful B cs) (sym eB) (shares-faithful B cs);
     }

@@ -13,7 +13,7 @@ use Rattle.channel.specs.Opening.{openedChannel}
 use Rattle.channel.specs.declared.state.Switches.{Switches}
 use Rattle.section.specs.Tables.{Tune}
 use Rattle.section.specs.Open.{freshState}
-use Rattle.section.specs.Machines.{Voices, recordsOf, voicesBehind}
+use Rattle.section.specs.Machines.{recordsOf, voicesBehind}
 use Rattle.section.specs.Walk.{voicesOf, stateWith}
 use Rattle.section.specs.Section.{Answer, Refused}
 use Rattle.noninterference.specs.Revoiced.{Revoiced, Lent}
@@ -22,6 +22,7 @@ use Rattle.noninterference.specs.Machines.{opened, pathOf, machineRecord
 use Rattle.noninterference.specs.Kept.{headIn, strikeIn, channelIn, listIn, channelOf, Same}
 use Rattle.noninterference.proofs.Dealt.{grant, gift, share, shares}
 use Rattle.noninterference.proofs.Cells.{steer-alike}
+use Rattle.noninterference.proofs.Openings.{opened-alike}
 use Rattle.noninterference.proofs.Together.{pick-two, Alike, Seen, behind-alike, records-alike, head-seen, strike-seen, channel-seen, list-seen}
 
 -- Open's state has 32 channels
@@ -43,36 +44,36 @@ view f A B g r m (c ∷ cs) =
     λ i. pick-two (λ x y. f x ≡ f y) (allowed c) {x = gift A m (c .size)} {z = gift B m (c .size)} (g m (c .size)) (r m) i
     ∷ view f A B g r (m + grant c) cs i
 
-module _ (chosen : ℕ → Bool) (A B : Tune) (whole : length (A .tables .cells) ≡ patternCount (A .tables .cells) * 10240) (R : Revoiced chosen A B) (l : Lent A) where
+module _ (chosen : ℕ → Bool) (A B : Tune) (whole : length (A .tables .cells) ≡ patternCount (A .tables .cells) * 10240) (R : Revoiced chosen A B) (lA : Lent A) (lB : Lent B) where
   -- both walk one path
   path-same : (n : ℕ) → pathOf A n ≡ pathOf B n
   unfolding pathOf
   path-same n =
       walk-alike (A .tables .orders) (A .tables .cells) (B .tables .cells) (R .lengths) (steer-alike chosen A B whole R) n (opened A .path)
-      ∙ (λ i. pathWalk (R .orders i) (B .tables .cells) n (freshState (R .opening i) .path))
+      ∙ (λ i. pathWalk (R .orders i) (B .tables .cells) n (opened-alike chosen A B R .path i))
 
   abbrev sw : Switches
   sw = opened A .switches
 
-  abbrev first : Voices
-  first = voicesOf (opened A)
-
-  start-alike : Alike chosen first first
-  start-alike = record { first-count = opened-channels A l; second-count = opened-channels A l; volume = refl; channel = λ k h g. refl }
+  start-alike : Alike chosen (voicesOf (opened A)) (voicesOf (opened B))
+  unfolding channelOf
+  start-alike =
+      let s = opened-alike chosen A B R in
+      record { first-count = opened-channels A lA; second-count = opened-channels B lB; volume = s .volume; channel = λ k h g. s .channel k g }
 
   -- the channel machines after n turns
   state-alike : (n : ℕ) (k : ℕ) → k < 32 → T (chosen k) → channelOf k (machineState A n) ≡ channelOf k (machineState B n)
   unfolding machineState stateWith channelOf
   state-alike n k h g =
-      behind-alike chosen A B whole R sw (pathOf A n .rows) first first start-alike .channel k h g
-      ∙ (λ i. channelOf k (stateWith (opened A) (path-same n i .path) (voicesBehind (B .tables) (freshState (R .opening i) .switches) (path-same n i .rows) (voicesOf (freshState (R .opening i))))))
+      behind-alike chosen A B whole R sw (pathOf A n .rows) (voicesOf (opened A)) (voicesOf (opened B)) start-alike .channel k h g
+      ∙ (λ i. channelOf k (stateWith (opened B) (path-same n i .path) (voicesBehind (B .tables) (opened-alike chosen A B R .switches i) (path-same n i .rows) (voicesOf (opened B)))))
 
   -- the records after n turns, by a view
   records-view : {Z : Type 0} (f : List ℕ → Z) → Seen chosen A B whole R sw f → (n : ℕ) → map f (machineRecords A n) ≡ map f (machineRecords B n)
   unfolding machineRecords
   records-view f s n =
-      records-alike chosen A B whole R sw f s (pathOf A n .rows) first first start-alike
-      ∙ (λ i. map f (recordsOf (B .tables) (freshState (R .opening i) .switches) (path-same n i .rows) (voicesOf (freshState (R .opening i)))))
+      records-alike chosen A B whole R sw f s (pathOf A n .rows) (voicesOf (opened A)) (voicesOf (opened B)) start-alike
+      ∙ (λ i. map f (recordsOf (B .tables) (opened-alike chosen A B R .switches i) (path-same n i .rows) (voicesOf (opened B))))
 
   abbrev heads : Seen chosen A B whole R sw headIn
   heads = head-seen chosen A B whole R sw

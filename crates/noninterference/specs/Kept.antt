@@ -1,12 +1,13 @@
 -- Demand 3: what a list of calls on two re-voiced tunes has in common, and what each tune's answers are. Assumes nothing.
 use Prim.Native.Nat.{ℕ, _+_, _*_, _^_, _≤_, _<_}
 use mathlib.Core.Path.{_≡_}
-use mathlib.Core.Bool.{Bool, false, not}
+use mathlib.Core.Bool.{Bool, not}
 use mathlib.Core.List.{List, map, _++_}
 use lib.Dec.{T, eqb}
 use lib.ListN.{length, getD, take, drop}
 use Rattle.laws.specs.Masks.{bitOf}
 use Rattle.tune.specs.Numbers.{littleAt}
+use Rattle.tune.specs.Opening.{blankChannel}
 use Rattle.row_path.specs.Walk.{rowsLeft}
 use Rattle.channel.specs.Opening.{openedChannel}
 use Rattle.channel.specs.declared.state.Channel.{Channel}
@@ -37,7 +38,7 @@ listIn chosen r = chosenOf chosen (strikesOf r)
 
 -- what stands for a channel that isn't there
 abbrev pub missing : Channel
-missing = openedChannel (record { pan = 0; muted = false; «right_bank» = false; adlib = false })
+missing = openedChannel blankChannel
 
 -- channel k of a state
 unfoldable pub channelOf : ℕ → State → Channel

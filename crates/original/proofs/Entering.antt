@@ -47,6 +47,7 @@ use Rattle.original.specs.Fields.{«self_channels», «self_order_index�
 use Rattle.original.specs.New.{«Channel::default»}
 use Rattle.original.specs.Player.{Pass, pass, noLocals, scopeLoop, conclude, written, playRow, «find_next_playable_order», enterAt, «enter_row»}
 use Rattle.original.specs.Map.{songOf, rustChannel, rustChannels, playerOf, stateMap, waiting, waitingIn, rowFrom, isSome, playedMap, enteredMap}
+use Rattle.original.specs.Untransposed.{Untransposed}
 use Rattle.original.proofs.Lists.{mask-none, mask-same}
 use Rattle.original.proofs.Scans.{scanOf}
 use Rattle.original.proofs.Conclude.{conclude-same}
@@ -88,7 +89,7 @@ held-or f false p q = q refl
 -- a row that is there: pattern v, at the path that has arrived
 module _ (t : Tables) (s : State) (sized : Sized (t .orders) (t .cells) (t .samples)) (bytes : ByteTables t)
     (full : length (s .channels) ≡ 32) (shaped : (i : ℕ) → i < 32 → ShapedChannel (getD (s .channels) i «Channel::default»))
-    (v : ℕ) (p : Path) (infos : length (p .«s_info») ≡ 32) where
+    (untransposed : Untransposed (s .channels)) (v : ℕ) (p : Path) (infos : length (p .«s_info») ≡ 32) where
   abbrev w : Switches
   w = s .switches
 
@@ -124,22 +125,22 @@ module _ (t : Tables) (s : State) (sized : Sized (t .orders) (t .cells) (t .samp
 
   abbrev Held : ℕ → Pass → Type 0
   Held n l =
-      Holds m (t .samples) (sample-same t w (sized .samples-whole)) (sample-fits t w (bytes .samples)) g row row-is cells (cell-same t w v (p .place .row)) (p .«s_info») infos cs full shaped n l
+      Holds m (t .samples) (sample-same t w (sized .samples-whole)) (sample-fits t w (bytes .samples)) g row row-is cells (cell-same t w v (p .place .row)) (p .«s_info») infos cs full shaped untransposed n l
 
   o : Held 32 after
   o =
-      holds m (t .samples) (sample-same t w (sized .samples-whole)) (sample-fits t w (bytes .samples)) g row row-is cells (cell-same t w v (p .place .row)) (p .«s_info») infos cs full shaped 32 (omega arith)
+      holds m (t .samples) (sample-same t w (sized .samples-whole)) (sample-fits t w (bytes .samples)) g row row-is cells (cell-same t w v (p .place .row)) (p .«s_info») infos cs full shaped untransposed 32 (omega arith)
 
   abbrev ys : List ℕ
   ys = o .infos-now
 
   abbrev info : ℕ → ℕ
   info j =
-      next m (t .samples) (sample-same t w (sized .samples-whole)) (sample-fits t w (bytes .samples)) g row row-is cells (cell-same t w v (p .place .row)) (p .«s_info») infos cs full shaped j
+      next m (t .samples) (sample-same t w (sized .samples-whole)) (sample-fits t w (bytes .samples)) g row row-is cells (cell-same t w v (p .place .row)) (p .«s_info») infos cs full shaped untransposed j
 
   abbrev struck : ℕ → Channel → Bool
   struck =
-      struckAt m (t .samples) (sample-same t w (sized .samples-whole)) (sample-fits t w (bytes .samples)) g row row-is cells (cell-same t w v (p .place .row)) (p .«s_info») infos cs full shaped
+      struckAt m (t .samples) (sample-same t w (sized .samples-whole)) (sample-fits t w (bytes .samples)) g row row-is cells (cell-same t w v (p .place .row)) (p .«s_info») infos cs full shaped untransposed
 
   one-same : (j : ℕ) → j < 32 → getD (after .channels) j «Channel::default» ≡ getD (rustChannels (channelsEntered row ys (t .samples) w g cs) ys) j «Channel::default»
   unfolding channelAt songOf
@@ -221,7 +222,7 @@ arrived-infos p at = refl
 
 module _ (t : Tables) (s : State) (sized : Sized (t .orders) (t .cells) (t .samples)) (bytes : ByteTables t)
     (full : length (s .channels) ≡ 32) (shaped : (i : ℕ) → i < 32 → ShapedChannel (getD (s .channels) i «Channel::default»))
-    (infos : length (s .path .«s_info») ≡ 32) (rows : s .path .place .row ≤ 63) where
+    (untransposed : Untransposed (s .channels)) (infos : length (s .path .«s_info») ≡ 32) (rows : s .path .place .row ≤ 63) where
   abbrev q : Path
   q = s .path
 
@@ -244,7 +245,7 @@ module _ (t : Tables) (s : State) (sized : Sized (t .orders) (t .cells) (t .samp
       (row-same t (s .switches) v (q .place .row) (named-below (t .orders) (patternCount (t .cells)) at v e) rows)
       ∙ ap (λ (r : ℕ). playRow song (cellsOf t (s .switches) v r) («self_pending_global_vol» (scopeLoop («self_order_index» before at)) None)) (sym (arrived-row q at))
       ∙ ap (λ (b : PlayerState). playRow song (cellsOf t (s .switches) v (arrived q at .place .row)) b) (scope-same q at (s .channels) (s .«global_volume»))
-      ∙ row-entered t s sized bytes full shaped v (arrived q at) (ap length (arrived-infos q at) ∙ infos)
+      ∙ row-entered t s sized bytes full shaped untransposed v (arrived q at) (ap length (arrived-infos q at) ∙ infos)
 
   pub entering-same : «enter_row» song before ≡ enteredMap t s (rowFrom t s)
   unfolding «enter_row» entered enteredMap playerOf songOf

@@ -5,11 +5,13 @@ use mathlib.Core.Bool.{Bool, true, false}
 use mathlib.Core.List.{List}
 use borrow.Author.Tests.{eqb-true}
 use lib.Dec.{eqb}
+use lib.IntN.{pos}
 use lib.ListN.{length, getD}
 use Rattle.laws.specs.Choice.{pick}
 use Rattle.laws.proofs.Picks.{choice}
 use Rattle.tune.specs.Samples.{sampleOf}
 use Rattle.tune.specs.declared.cells.Cell.{Cell}
+use Rattle.tune.specs.declared.opening.Fixed.{Fixed}
 use Rattle.tune.specs.Numbers.{Bytes}
 use Rattle.channel.specs.declared.state.Channel.{Channel}
 use Rattle.channel.specs.declared.state.Played.{Played}
@@ -65,7 +67,8 @@ said m k i x a = by (eqb k 19) (hasMemory k) (eqb i 0) refl (eqb-true i 0)
     by false false true e f = ap (λ (n : ℕ). spoken k n a) (sym (f refl))
 
 module _ (m : Song) (samples : List ℕ) (named : (n : ℕ) → lookup m n ≡ sampleOf samples n) (fits : (k : ℕ) → Fits (getD (m .samples) k anySample))
-    (g : ℕ) (l : Cell) (byte : l .info < 256) (c : Channel) (x : ℕ) (h : length (c .«effect_memory») ≡ 32) (b : Bytes (c .«effect_memory»)) where
+    (g : ℕ) (l : Cell) (byte : l .info < 256) (c : Channel) (x : ℕ) (h : length (c .«effect_memory») ≡ 32) (b : Bytes (c .«effect_memory»))
+    (z : c .fixed .transposition ≡ pos 0) where
   abbrev next : ℕ
   next = infoAfter (l .command) (l .info) x
 
@@ -90,11 +93,18 @@ module _ (m : Song) (samples : List ℕ) (named : (n : ℕ) → lookup m n ≡ s
   unfolding begun withRow
   begun-info = refl
 
+  begun-at-0 : begun c l next .fixed .transposition ≡ pos 0
+  unfolding begun withRow
+  begun-at-0 = z
+
+  after-at-0 : after .fixed .transposition ≡ pos 0
+  after-at-0 = ap (λ (f : Fixed). f .transposition) (deliver-keeps (begun c l next) l samples (m .«amiga_limits») g .fixed) ∙ begun-at-0
+
   play-same : playChannel m g l (rustChannel c x) ≡ overIn F played
   unfolding playChannel
   play-same =
       ap (deliver m g l) (prepare-same c l x h)
-      ∙ deliver-same m samples named fits g l (rustChannel (begun c l next) next) offset-byte begun-command
+      ∙ deliver-same m samples named fits g l (rustChannel (begun c l next) next) offset-byte begun-command begun-at-0
       ∙ deliver-over F (begun c l next) l samples (m .«amiga_limits») g
 
   -- a note starts in the Rust where ours is struck
@@ -108,7 +118,7 @@ module _ (m : Song) (samples : List ℕ) (named : (n : ℕ) → lookup m n ≡ s
   turn-ch a =
       ap (λ (e : Played). latch (c .volume) g (tickZero m (e .channel .command) (e .channel .info) (record { ch = e .channel; a = a }) .ch)) play-same
       ∙ latch-same (c .volume) g _
-      ∙ ap (λ (d : Channel). relatched d (c .volume) g) (tick-ch m (handed m) refl refl (over F after) a)
+      ∙ ap (λ (d : Channel). relatched d (c .volume) g) (tick-ch m (handed m) refl refl (over F after) a after-at-0)
       ∙ ap (λ (d : Channel). relatched d (c .volume) g) (command-over F (handed m) after)
       ∙ latch-over F (commanded after (handed m)) (c .volume) g
 

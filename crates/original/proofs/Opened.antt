@@ -1,26 +1,32 @@
 -- A fresh state is what the Rust's `PlayerState::new` makes of the opening values, and the premises of the theorems hold where they
--- are used: it has the shape of its type, and a small tune with its fresh state is accepted. Assumes nothing.
+-- are used: it has the shape of its type, opening values at transposition 0 make it untransposed, and a small tune with its fresh
+-- state is accepted. Assumes nothing.
 use Prim.Native.Nat.{ℕ, zero, suc, _≤_, _<_}
 use mathlib.Core.Path.{_≡_, refl, ap, _∙_}
 use mathlib.Core.List.{List, [], _∷_, map}
 use native.Mathlib.Omega.{arith}
+use lib.IntN.{pos}
 use lib.Ieee.{isNan}
 use lib.ListN.{length, getD, replicate}
 use Rattle.laws.specs.Entries.{mapFrom}
 use Rattle.tune.specs.Sizes.{rule9}
+use Rattle.tune.specs.Opening.{blankChannel, UntransposedOpening}
+use Rattle.tune.specs.declared.opening.Fixed.{Fixed}
 use Rattle.tune.specs.declared.opening.ChannelOpening.{ChannelOpening}
 use Rattle.tune.specs.declared.opening.Opening.{Opening}
 use Rattle.tune.specs.Numbers.{Bytes}
 use Rattle.row_path.specs.First.{firstPath}
 use Rattle.channel.specs.Opening.{openedChannel}
-use Rattle.channel.specs.declared.state.Channel.{Channel}
+use Rattle.channel.proofs.Armed.{opened-fixed}
 use Rattle.section.specs.Tables.{Tables, tablesRule}
 use Rattle.section.specs.Open.{freshState}
 use Rattle.section.specs.Section.{pathBroken, channelBroken, stateRule}
 use Rattle.section.specs.Typed.{ShapedChannel, Shaped, ByteTables}
-use Rattle.section.specs.Ordinary.{ordinary}
+use Rattle.section.specs.Ordinary.{centred, ordinary}
+use Rattle.section.proofs.Accepted.{each-opened}
 use Rattle.original.specs.Fields.{«self_channels»}
 use Rattle.original.specs.New.{newChannel, «PlayerState::new»}
+use Rattle.original.specs.Untransposed.{Untransposed}
 use Rattle.original.specs.Map.{rustChannel, rustChannels, playerOf, stateMap}
 
 zero-bytes : (n : ℕ) → Bytes (replicate n 0)
@@ -56,22 +62,24 @@ opened-length : (os : List ChannelOpening) → length (map openedChannel os) ≡
 opened-length [] = refl
 opened-length (o ∷ os) = ap suc (opened-length os)
 
-opened-at : (os : List ChannelOpening) (i : ℕ) (d : Channel) → i < length os → ShapedChannel (getD (map openedChannel os) i d)
-opened-at [] i d h = absurd (omega arith)
-opened-at (o ∷ os) zero d h = opened-channel o
-opened-at (o ∷ os) (suc i) d h = opened-at os i d (omega arith)
-
 -- a fresh state has 32 channels, memories and S infos of 32 bytes
 pub fresh-shaped : (o : Opening) → length (o .channels) ≡ 32 → o .speed ≤ 255 → Shaped (freshState o)
 unfolding freshState firstPath
 fresh-shaped o h f =
     record {
       channels = opened-length (o .channels) ∙ h;
-      channel = λ i d b. opened-at (o .channels) i d (omega (arith, h));
+      channel = λ i d b. each-opened ShapedChannel d blankChannel (o .channels) (λ k l. opened-channel _) i (omega (arith, h, opened-length (o .channels)));
       infos = length-zeros 32;
       order = omega arith;
       speed = f;
     }
+
+-- opening values whose transpositions are 0, as Read gives them, make such a state; each state behind a call is so again (`AsOriginal`)
+pub fresh-untransposed : (o : Opening) → UntransposedOpening o → Untransposed (freshState o .channels)
+unfolding freshState
+fresh-untransposed o z i d =
+    each-opened (λ c. c .fixed .transposition ≡ pos 0) d blankChannel (o .channels)
+    (λ k b. ap (λ (f : Fixed). f .transposition) (opened-fixed (getD (o .channels) k blankChannel)) ∙ z k blankChannel b) i
 
 -- one order, one pattern, one sample
 unfoldable small : Tables
@@ -91,3 +99,11 @@ small-bytes = record { cells = zero-bytes 10240; samples = zero-bytes 20 }
 
 small-shaped : Shaped (freshState ordinary)
 small-shaped = fresh-shaped ordinary refl (omega arith)
+
+centred-at : (n i : ℕ) (d : ChannelOpening) → i < n → getD (replicate n centred) i d .fixed .transposition ≡ pos 0
+centred-at zero i d h = absurd (omega arith)
+centred-at (suc n) zero d h = refl
+centred-at (suc n) (suc i) d h = centred-at n i d (omega arith)
+
+small-untransposed : Untransposed (freshState ordinary .channels)
+small-untransposed = fresh-untransposed ordinary (centred-at 32)

@@ -6,6 +6,7 @@ use mathlib.Core.List.{List}
 use native.Mathlib.Omega.{arith}
 use native.Mathlib.Nat.{zero-add}
 use lib.Dec.{eqb}
+use lib.IntN.{pos}
 use lib.ListN.{length, getD, set, drop, length-set}
 use lib.Seq.{getD-set-same, getD-set-other}
 use Rattle.laws.specs.Choice.{pick}
@@ -26,6 +27,7 @@ use Rattle.original.specs.State.{Song, Locals}
 use Rattle.original.specs.New.{«Cell::EMPTY», «Channel::default»}
 use Rattle.original.specs.Player.{anySample, Tick, Pass, playChannel, channelTick, storeTurn, turnAt, pass, noLocals}
 use Rattle.original.specs.Map.{rustChannel, rustChannels, waiting}
+use Rattle.original.specs.Untransposed.{Untransposed}
 use Rattle.laws.proofs.Picks.{here-or}
 use Rattle.original.proofs.Lists.{mask-drop}
 use Rattle.original.proofs.Prepare.{infoAfter}
@@ -53,7 +55,8 @@ rust-length cs infos = map-length (λ i c. rustChannel c (getD infos i 0)) 0 cs
 module _ (m : Song) (samples : List ℕ) (named : (n : ℕ) → lookup m n ≡ sampleOf samples n) (fits : (k : ℕ) → Fits (getD (m .samples) k anySample))
     (g : ℕ) (row : List ℕ) (bytes : Bytes row) (cells : List Cell) (cell-at : (n : ℕ) → n < 32 → getD cells n «Cell::EMPTY» ≡ cellOf row n)
     (before : List ℕ) (infos : length before ≡ 32) (cs : List Channel) (channels : length cs ≡ 32)
-    (shaped : (i : ℕ) → i < 32 → ShapedChannel (getD cs i «Channel::default»)) where
+    (shaped : (i : ℕ) → i < 32 → ShapedChannel (getD cs i «Channel::default»))
+    (untransposed : Untransposed cs) where
   abbrev start : Pass
   start = record { channels = rustChannels cs before; a = noLocals None; strikes = 0 }
 
@@ -104,6 +107,9 @@ module _ (m : Song) (samples : List ℕ) (named : (n : ℕ) → lookup m n ≡ s
   unfolding cellOf
   info-byte n = bytes (n * 5 + 4)
 
+  channel-at-0 : (n : ℕ) → n < 32 → channel n .fixed .transposition ≡ pos 0
+  channel-at-0 n h = untransposed n «Channel::default» (omega (arith, channels))
+
   module _ (n : ℕ) (h : n < 32) (l : Pass) (o : Holds n l) where
     abbrev k : ℕ
     k = cellOf row n .command
@@ -117,12 +123,12 @@ module _ (m : Song) (samples : List ℕ) (named : (n : ℕ) → lookup m n ≡ s
     tick-ch : tick .ch ≡ rustChannel (done n) (next n)
     tick-ch =
         ap (λ (c : Channel). channelTick m g (cellOf row n) (record { ch = c; a = l .a }) .ch) (o .ahead n (omega arith) h)
-        ∙ turn-ch m samples named fits g (cellOf row n) (info-byte n) (channel n) (getD before n 0) (shaped n h .memory) (shaped n h .bytes) (l .a)
+        ∙ turn-ch m samples named fits g (cellOf row n) (info-byte n) (channel n) (getD before n 0) (shaped n h .memory) (shaped n h .bytes) (channel-at-0 n h) (l .a)
 
     tick-a : tick .a ≡ spoken k (pick (eqb k 19) (next n) i) (l .a)
     tick-a =
         ap (λ (c : Channel). channelTick m g (cellOf row n) (record { ch = c; a = l .a }) .a) (o .ahead n (omega arith) h)
-        ∙ turn-a m samples named fits g (cellOf row n) (info-byte n) (channel n) (getD before n 0) (shaped n h .memory) (shaped n h .bytes) (l .a)
+        ∙ turn-a m samples named fits g (cellOf row n) (info-byte n) (channel n) (getD before n 0) (shaped n h .memory) (shaped n h .bytes) (channel-at-0 n h) (l .a)
 
     scan-next : scanned row (suc n) (firstScan before) ≡ scanOf (set (o .infos-now) n (next n)) (tick .a)
     unfolding scanned
@@ -151,7 +157,7 @@ module _ (m : Song) (samples : List ℕ) (named : (n : ℕ) → lookup m n ≡ s
     struck-is : struck ≡ struckAt n (channel n)
     struck-is =
         ap (λ (c : Channel). playChannel m g (cellOf row n) c .struck) (o .ahead n (omega arith) h)
-        ∙ turn-struck m samples named fits g (cellOf row n) (info-byte n) (channel n) (getD before n 0) (shaped n h .memory) (shaped n h .bytes)
+        ∙ turn-struck m samples named fits g (cellOf row n) (info-byte n) (channel n) (getD before n 0) (shaped n h .memory) (shaped n h .bytes) (channel-at-0 n h)
 
     mask-next : l .strikes + bitAt struck n + maskFrom struckAt (suc n) (drop (suc n) cs) ≡ maskFrom struckAt 0 cs
     mask-next =

@@ -1,8 +1,9 @@
--- The Rust's frequencies and limits are pitch's. Assumes nothing.
+-- The Rust's frequencies are pitch's at transposition 0, its limits pitch's. Assumes nothing.
 use Prim.Native.Nat.{ℕ, max, _*_, _/_}
 use mathlib.Core.Path.{_≡_, refl, sym, ap, _∙_}
 use mathlib.Core.Bool.{Bool, true, false}
 use native.Mathlib.Omega.{arith}
+use lib.IntN.{pos}
 use lib.Ieee.{Float, lt, div, ofInt, round}
 use Rattle.laws.specs.Choice.{pick}
 use Rattle.laws.proofs.Picks.{push}
@@ -10,6 +11,8 @@ use Rattle.pitch.specs.Periods.{periods, periodOf, noteNumber}
 use Rattle.pitch.specs.Finetune.{finetunes}
 use Rattle.pitch.specs.Frequency.{periodAt, frequencyOf, noteFrequency}
 use Rattle.pitch.specs.Limits.{lowest, highest, limited}
+use Rattle.pitch.proofs.Transposed.{number-at-0}
+use Rattle.channel.specs.Pitches.{frequencyOn}
 use Rattle.channel.specs.Set.{withPitch}
 use Rattle.channel.specs.declared.state.Channel.{Channel}
 use Rattle.original.specs.Fields.{«ch_frequency», «ch_target_frequency»}
@@ -25,19 +28,19 @@ pub finetune-table-equal : «S2X_FINETUNE_TABLE» ≡ finetunes
 unfolding «S2X_FINETUNE_TABLE»
 finetune-table-equal = refl
 
--- a note's frequency
-pub frequency-equal : (note c5 : ℕ) → «note_to_frequency» note c5 ≡ noteFrequency note c5
-unfolding «note_to_frequency» «note_index_to_frequency» noteFrequency frequencyOf periodAt periodOf noteNumber
-frequency-equal note c5 = rw period-table-equal refl
+-- a note's frequency, at transposition 0
+pub frequency-equal : (note c5 : ℕ) → «note_to_frequency» note c5 ≡ noteFrequency note (pos 0) c5
+unfolding «note_to_frequency» «note_index_to_frequency» noteFrequency frequencyOf periodAt periodOf
+frequency-equal note c5 = rw (number-at-0 note, period-table-equal) refl
 
 once : (c5 : ℕ) → max (max c5 1) 1 ≡ max c5 1
 once c5 = omega arith
 
--- at a c5 speed of at least 1
-pub frequency-least : (note c5 : ℕ) → «note_to_frequency» note (max c5 1) ≡ noteFrequency note c5
+-- at a c5 speed of at least 1, on a channel whose transposition is 0
+pub frequency-least : (c : Channel) (note c5 : ℕ) → c .fixed .transposition ≡ pos 0 → «note_to_frequency» note (max c5 1) ≡ frequencyOn c note c5
 unfolding noteFrequency periodAt
-frequency-least note c5 =
-    frequency-equal note (max c5 1) ∙ ap (λ (n : ℕ). frequencyOf (8363 * periodOf (noteNumber note) / n)) (once c5)
+frequency-least c note c5 z =
+    frequency-equal note (max c5 1) ∙ (λ i. frequencyOf (8363 * periodOf (noteNumber note (sym z i)) / once c5 i))
 
 lo-is : lo ≡ lowest
 unfolding lo lowest

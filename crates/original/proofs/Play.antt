@@ -7,20 +7,22 @@ use native.Mathlib.Omega.{arith}
 use borrow.Author.Tests.{eqb-false, ltb-true, ltb-false, lt-ltb, le-leb, lt-leb}
 use lib.Dec.{eqb, ltb, leb}
 use lib.ListN.{length, getD}
+use lib.IntN.{pos}
 use lib.Ieee.{Float, lt}
 use Rattle.laws.specs.Choice.{pick}
 use Rattle.laws.proofs.Picks.{push, either, same-test}
 use Rattle.tune.specs.Samples.{sampleOf}
 use Rattle.tune.specs.declared.cells.Cell.{Cell}
+use Rattle.tune.specs.declared.opening.Fixed.{Fixed}
 use Rattle.tune.specs.declared.samples.Sample.{Sample}
 use Rattle.tune.specs.declared.samples.SampleOption.{SampleOption}
 use Rattle.tune.specs.declared.samples.SampleOption.the-variants.{None, Some}
-use Rattle.pitch.specs.Frequency.{noteFrequency}
 use Rattle.channel.specs.declared.state.Channel.{Channel}
 use Rattle.channel.specs.declared.state.Played.{Played}
+use Rattle.channel.specs.Pitches.{frequencyOn}
 use Rattle.channel.specs.Levels.{silence}
 use Rattle.channel.specs.Set.{withDelay, withInstrument, withStored, withVoice, withCut, withPitch, withNote, withStart}
-use Rattle.channel.specs.Play.{unstruck, strikes, loadedFrom, loaded, cut, aimed, startOf, voiceOf, started, slides, noteOn, slidBack, noted, volumed, volumedAfter, instrumentOf, playCell}
+use Rattle.channel.specs.Play.{unstruck, strikes, loadedFrom, loaded, cut, aimed, startOf, voiceOf, renewed, started, slides, noteOn, slidBack, noted, volumed, volumedAfter, instrumentOf, playCell}
 use Rattle.channel.specs.Row.{putOff, withInfo, delivered}
 use Rattle.original.specs.State.{Song}
 use Rattle.original.specs.Fields.{«ch_instrument», «ch_opl_voice», «ch_sample_pos», «ch_vibrato_pos», «ch_tremolo_pos», «ch_last_note»}
@@ -93,6 +95,10 @@ loaded-info : (c : Channel) (i : ℕ) (named : SampleOption) (g : ℕ) → loade
 unfolding withInstrument withStored
 loaded-info c i named g = loaded-keeps (λ (d : Channel). d .info) c i named g (λ d v. refl) refl
 
+loaded-fixed : (c : Channel) (i : ℕ) (named : SampleOption) (g : ℕ) → loaded c i named g .fixed ≡ c .fixed
+unfolding withInstrument withStored
+loaded-fixed c i named g = loaded-keeps (λ (d : Channel). d .fixed) c i named g (λ d v. refl) refl
+
 aim-same : (am : Bool) (n : ℕ) (f : Float) (c : Channel) → slideTo am n f c ≡ aimed c n f am
 unfolding slideTo aimed withNote withPitch
 aim-same am n f c = ap (λ (d : Channel). «ch_last_note» d n) (amiga-equal _ am)
@@ -111,34 +117,34 @@ cursor-same s l c h b k i =
     (where-true (eqb (l .command) 15) zeroFloat
     (λ e. let n : l .info < 256 = b e in offset-equal (l .info * 256) (s .«loop_start») (s .«loop_end») (s .length) (s .looped) (omega arith) (h .start) (h .end)))
 
-vibrato-same : (c : Channel) → resetVibrato c ≡ «ch_vibrato_pos» c (pick (c .«keep_vibrato_pos_on_new_note») (c .«vibrato_pos») 0)
+vibrato-same : (c : Channel) → resetVibrato c ≡ «ch_vibrato_pos» c (pick (c .vibrato .«keep_pos_on_new_note») (c .vibrato .pos) 0)
 unfolding resetVibrato
 vibrato-same c =
-    sym (push («ch_vibrato_pos» c) (not (c .«keep_vibrato_pos_on_new_note»)) refl refl)
-    ∙ ap («ch_vibrato_pos» c) (opposite (c .«keep_vibrato_pos_on_new_note») 0 (c .«vibrato_pos»))
+    sym (push («ch_vibrato_pos» c) (not (c .vibrato .«keep_pos_on_new_note»)) refl refl)
+    ∙ ap («ch_vibrato_pos» c) (opposite (c .vibrato .«keep_pos_on_new_note») 0 (c .vibrato .pos))
 
-tremolo-same : (c : Channel) → resetTremolo c ≡ «ch_tremolo_pos» c (pick (c .«keep_tremolo_pos_on_new_note») (c .«tremolo_pos») 0)
+tremolo-same : (c : Channel) → resetTremolo c ≡ «ch_tremolo_pos» c (pick (c .tremolo .«keep_pos_on_new_note») (c .tremolo .pos) 0)
 unfolding resetTremolo
 tremolo-same c =
-    sym (push («ch_tremolo_pos» c) (not (c .«keep_tremolo_pos_on_new_note»)) refl refl)
-    ∙ ap («ch_tremolo_pos» c) (opposite (c .«keep_tremolo_pos_on_new_note») 0 (c .«tremolo_pos»))
+    sym (push («ch_tremolo_pos» c) (not (c .tremolo .«keep_pos_on_new_note»)) refl refl)
+    ∙ ap («ch_tremolo_pos» c) (opposite (c .tremolo .«keep_pos_on_new_note») 0 (c .tremolo .pos))
 
 key-same : (s : Sample) (c : Channel) → keyOn s c ≡ «ch_opl_voice» c (voiceOf c s)
 unfolding keyOn voiceOf
-key-same s c = sym (push («ch_opl_voice» c) (c .adlib) refl refl)
+key-same s c = sym (push («ch_opl_voice» c) (c .fixed .adlib) refl refl)
 
 cut-same : (c : Channel) → noteCut c ≡ cut c
 unfolding noteCut cut withVoice withCut
 cut-same c = refl
 
-back-same : (am : Bool) (s : Sample) (c : Channel) → slideBack am s c ≡ aimed c (c .«last_note») (noteFrequency (c .«last_note») (s .«c5_speed»)) am
+back-same : (am : Bool) (s : Sample) (c : Channel) → c .fixed .transposition ≡ pos 0 → slideBack am s c ≡ aimed c (c .«last_note») (frequencyOn c (c .«last_note») (s .«c5_speed»)) am
 unfolding slideBack aimed withNote withPitch
-back-same am s c =
-    amiga-equal _ am ∙ ap (λ (f : Float). aimed c (c .«last_note») f am) (frequency-least (c .«last_note») (s .«c5_speed»))
+back-same am s c z =
+    amiga-equal _ am ∙ ap (λ (f : Float). aimed c (c .«last_note») f am) (frequency-least c (c .«last_note») (s .«c5_speed») z)
 
 module _ (l : Cell) (b : Offset l) where
   start-same : (am : Bool) (f : Float) (s : Sample) (c : Channel) → Fits s → c .command ≡ l .command → c .info ≡ l .info → trigger am (l .note) f s c ≡ started c l f s am
-  unfolding trigger started wake withStart withPitch voiceOf
+  unfolding trigger started renewed wake withStart withPitch voiceOf
   start-same am f s c h k i =
       ap (λ (d : Channel). keyOn s («ch_last_note» (resetTremolo (resetVibrato (wake (setCursor s d)))) (l .note))) (amiga-equal _ am)
       ∙ ap (λ (d : Channel). keyOn s («ch_last_note» (resetTremolo (resetVibrato (wake d))) (l .note))) (cursor-same s l _ h b k i)
@@ -146,40 +152,40 @@ module _ (l : Cell) (b : Offset l) where
       ∙ ap (λ (d : Channel). keyOn s («ch_last_note» d (l .note))) (tremolo-same _)
       ∙ key-same s _
 
-  on-same : (am : Bool) (s : Sample) (c : Channel) → Fits s → c .command ≡ l .command → c .info ≡ l .info → startNote am (l .note) (pitchOf (l .note) s) s c ≡ noteOn c l (Some s) am
+  on-same : (am : Bool) (s : Sample) (c : Channel) → Fits s → c .command ≡ l .command → c .info ≡ l .info → c .fixed .transposition ≡ pos 0 → startNote am (l .note) (pitchOf (l .note) s) s c ≡ noteOn c l (Some s) am
   unfolding startNote noteOn porta
-  on-same am s c h k i =
-      ap (λ (f : Float). startNote am (l .note) f s c) (frequency-least (l .note) (s .«c5_speed»))
+  on-same am s c h k i z =
+      ap (λ (f : Float). startNote am (l .note) f s c) (frequency-least c (l .note) (s .«c5_speed») z)
       ∙ push (λ (e : Played). e) (slides (c .command) && lt silence (c .frequency)) (ap unstruck (aim-same am (l .note) _ c)) (ap strikes (start-same am _ s c h k i))
-      ∙ ap (λ (n : ℕ). pick (slides n && lt silence (c .frequency)) (unstruck (aimed c (l .note) (noteFrequency (l .note) (s .«c5_speed»)) am)) (strikes (started c l (noteFrequency (l .note) (s .«c5_speed»)) s am))) k
+      ∙ ap (λ (n : ℕ). pick (slides n && lt silence (c .frequency)) (unstruck (aimed c (l .note) (frequencyOn c (l .note) (s .«c5_speed»)) am)) (strikes (started c l (frequencyOn c (l .note) (s .«c5_speed»)) s am))) k
 
   -- with a sample or none
-  on-any : (am d : Bool) (s : Sample) (c : Channel) → Fits s → c .command ≡ l .command → c .info ≡ l .info
+  on-any : (am d : Bool) (s : Sample) (c : Channel) → Fits s → c .command ≡ l .command → c .info ≡ l .info → c .fixed .transposition ≡ pos 0
       → pick d (startNote am (l .note) (pitchOf (l .note) s) s c) (unstarted c) ≡ noteOn c l (pick d (Some s) None) am
   unfolding noteOn
-  on-any am true s c h k i = on-same am s c h k i
-  on-any am false s c h k i = refl
+  on-any am true s c h k i z = on-same am s c h k i z
+  on-any am false s c h k i z = refl
 
-  back-any : (am d : Bool) (s : Sample) (c : Channel) → c .command ≡ l .command
+  back-any : (am d : Bool) (s : Sample) (c : Channel) → c .command ≡ l .command → c .fixed .transposition ≡ pos 0
       → pick (porta c && not (eqb (c .«last_note») 0)) (unstarted (pick d (slideBack am s c) c)) (unstarted c) ≡ unstruck (slidBack c l (pick d (Some s) None) am)
   unfolding slidBack porta
-  back-any am true s c k =
-      sym (push unstruck (slides (c .command) && not (eqb (c .«last_note») 0)) (ap unstruck (sym (back-same am s c))) refl)
-      ∙ ap (λ (n : ℕ). unstruck (pick (slides n && not (eqb (c .«last_note») 0)) (aimed c (c .«last_note») (noteFrequency (c .«last_note») (s .«c5_speed»)) am) c)) k
-  back-any am false s c k = either (slides (c .command) && not (eqb (c .«last_note») 0)) (λ _. refl) (λ _. refl)
+  back-any am true s c k z =
+      sym (push unstruck (slides (c .command) && not (eqb (c .«last_note») 0)) (ap unstruck (sym (back-same am s c z))) refl)
+      ∙ ap (λ (n : ℕ). unstruck (pick (slides n && not (eqb (c .«last_note») 0)) (aimed c (c .«last_note») (frequencyOn c (c .«last_note») (s .«c5_speed»)) am) c)) k
+  back-any am false s c k z = either (slides (c .command) && not (eqb (c .«last_note») 0)) (λ _. refl) (λ _. refl)
 
   exchange : (e : Bool) {x y u v : Played} → x ≡ v → y ≡ u → pick (not e) x y ≡ pick e u v
   exchange true p q = q
   exchange false p q = p
 
-  note-same : (m : Song) (c : Channel) → ((k : ℕ) → Fits (getD (m .samples) k anySample)) → c .command ≡ l .command → c .info ≡ l .info
+  note-same : (m : Song) (c : Channel) → ((k : ℕ) → Fits (getD (m .samples) k anySample)) → c .command ≡ l .command → c .info ≡ l .info → c .fixed .transposition ≡ pos 0
       → noteColumn m l c ≡ noted c l (lookup m (c .instrument)) (m .«amiga_limits»)
   unfolding noteColumn noted inRange current
-  note-same m c h k i =
+  note-same m c h k i z =
       push (λ (e : Played). e) (eqb (l .note) 254) (ap unstruck (cut-same c))
       (exchange (eqb (l .note) 255)
-      (on-any (m .«amiga_limits») (ltb 0 (c .instrument) && leb (c .instrument) (length (m .samples))) _ c (h _) k i)
-      (back-any (m .«amiga_limits») (ltb 0 (c .instrument) && leb (c .instrument) (length (m .samples))) _ c k))
+      (on-any (m .«amiga_limits») (ltb 0 (c .instrument) && leb (c .instrument) (length (m .samples))) _ c (h _) k i z)
+      (back-any (m .«amiga_limits») (ltb 0 (c .instrument) && leb (c .instrument) (length (m .samples))) _ c k z))
 
   volume-same : (g : ℕ) (c : Channel) → volumeColumn g l c ≡ volumed c (l .volume) g
   unfolding volumeColumn volumed withStored «clamp_pcm_volume»
@@ -191,12 +197,13 @@ module _ (l : Cell) (b : Offset l) where
 
 module _ (m : Song) (samples : List ℕ) (named : (n : ℕ) → lookup m n ≡ sampleOf samples n) (fits : (k : ℕ) → Fits (getD (m .samples) k anySample)) where
   -- the columns of a cell whose command and info are those in force
-  columns-same : (g : ℕ) (l : Cell) (c : Channel) → Offset l → c .command ≡ l .command → c .info ≡ l .info → playColumns m g l c ≡ playCell c l samples (m .«amiga_limits») g
+  columns-same : (g : ℕ) (l : Cell) (c : Channel) → Offset l → c .command ≡ l .command → c .info ≡ l .info → c .fixed .transposition ≡ pos 0 → playColumns m g l c ≡ playCell c l samples (m .«amiga_limits») g
   unfolding playColumns playCell
-  columns-same g l c b k i =
+  columns-same g l c b k i z =
       let d : Channel = loaded c (l .instrument) (lookup m (instrumentOf c l)) g in
       ap (λ (d : Channel). volumeAfterNote g l (noteColumn m l d)) (instrument-same m g l c)
-      ∙ ap (volumeAfterNote g l) (note-same l b m d fits (loaded-command c (l .instrument) (lookup m (instrumentOf c l)) g ∙ k) (loaded-info c (l .instrument) (lookup m (instrumentOf c l)) g ∙ i))
+      ∙ ap (volumeAfterNote g l) (note-same l b m d fits (loaded-command c (l .instrument) (lookup m (instrumentOf c l)) g ∙ k) (loaded-info c (l .instrument) (lookup m (instrumentOf c l)) g ∙ i)
+      (ap (λ (f : Fixed). f .transposition) (loaded-fixed c (l .instrument) (lookup m (instrumentOf c l)) g) ∙ z))
       ∙ after-same l b g _
       ∙ ap (λ (n : ℕ). volumedAfter (noted (loaded c (l .instrument) (lookup m (instrumentOf c l)) g) l (lookup m n) (m .«amiga_limits»)) (l .volume) g)
       (loaded-instrument c l (lookup m (instrumentOf c l)) g)
@@ -207,14 +214,14 @@ module _ (m : Song) (samples : List ℕ) (named : (n : ℕ) → lookup m n ≡ s
   unfolding playColumns volumeAfterNote volumeColumn noteColumn instrumentColumn
   same-columns g l c i = refl
 
-  play-same : (g : ℕ) (l : Cell) (c : Channel) → Offset (withInfo l (c .info)) → c .command ≡ l .command → playColumns m g l c ≡ playCell c (withInfo l (c .info)) samples (m .«amiga_limits») g
-  play-same g l c b k = same-columns g l c (c .info) ∙ columns-same g (withInfo l (c .info)) c b k refl
+  play-same : (g : ℕ) (l : Cell) (c : Channel) → Offset (withInfo l (c .info)) → c .command ≡ l .command → c .fixed .transposition ≡ pos 0 → playColumns m g l c ≡ playCell c (withInfo l (c .info)) samples (m .«amiga_limits») g
+  play-same g l c b k z = same-columns g l c (c .info) ∙ columns-same g (withInfo l (c .info)) c b k refl z
 
-  pub deliver-same : (g : ℕ) (l : Cell) (c : Channel) → Offset (withInfo l (c .info)) → c .command ≡ l .command → deliver m g l c ≡ delivered c l samples (m .«amiga_limits») g
+  pub deliver-same : (g : ℕ) (l : Cell) (c : Channel) → Offset (withInfo l (c .info)) → c .command ≡ l .command → c .fixed .transposition ≡ pos 0 → deliver m g l c ≡ delivered c l samples (m .«amiga_limits») g
   unfolding deliver delivered «is_note_delay» «is_s00_repeat_sdx» stash withDelay putOff
-  deliver-same g l c b k =
+  deliver-same g l c b k z =
       by (eqb (c .command) 19) (eqb (c .info / 16) 13) (not (eqb (c .info % 16) 0)) (eqb (l .info) 0) (eqb (l .command) 19) (withDelay c (putOff l (c .info))) (ap (λ (n : ℕ). eqb n 19) k)
-      (play-same g l c b k) (play-same g l (withDelay c (putOff l (c .info))) b k)
+      (play-same g l c b k z) (play-same g l (withDelay c (putOff l (c .info))) b k z)
     where
       by : (k i j z q : Bool) (P : Channel) {X Y : Played} → k ≡ q → playColumns m g l c ≡ Y → playColumns m g l P ≡ X
           → pick ((k && i && j) && not ((k && i && j) && z && q)) (unstarted P) (playColumns m g l (pick ((k && i && j) && z && q) P c))

@@ -2,11 +2,11 @@
 use Prim.Native.Nat.{ℕ, zero, suc, _+_, _*_, _/_, _%_, _≤_, _<_}
 use mathlib.Core.Path.{_≡_, refl, sym, ap, _∙_}
 use mathlib.Core.Bool.{Bool, true, false, _&&_, _||_, not}
-use mathlib.Core.List.{List}
 use native.Mathlib.Omega.{arith}
 use borrow.Author.Tests.{eqb-true, eqb-false, ltb-true, ltb-false, leb-true, leb-false, ne-eqb, lt-ltb, le-ltb, le-leb, lt-leb}
 use lib.Dec.{eqb, ltb, leb}
 use lib.ListN.{getD}
+use lib.IntN.{pos}
 use lib.Ieee.{Float}
 use Rattle.laws.specs.Choice.{pick}
 use Rattle.laws.proofs.Picks.{push, either}
@@ -16,7 +16,7 @@ use Rattle.pitch.specs.Limits.{limited}
 use Rattle.pitch.specs.Slides.{factorOf, factorNumber, slid}
 use Rattle.channel.specs.declared.state.Channel.{Channel}
 use Rattle.channel.specs.Levels.{fastSlid, volumeSlid, stereoPan}
-use Rattle.channel.specs.Commands.{finetuned, waveformOf, keepsPosition}
+use Rattle.channel.specs.Commands.{finetuned, waveformOf, keepsPosition, shaped}
 use Rattle.channel.specs.Set.{withPitch, withVolume, withPan, withVibrato, withTremolo}
 use Rattle.original.specs.Constants.{«S2X_FINETUNE_TABLE»}
 use Rattle.original.specs.Fields.{«ch_frequency», «ch_target_frequency», «ch_volume», «ch_pan», «ch_vibrato_waveform», «ch_keep_vibrato_pos_on_new_note», «ch_tremolo_waveform», «ch_keep_tremolo_pos_on_new_note»}
@@ -61,11 +61,12 @@ fine-slide-same c up on info h =
     ap (λ (f : Float). fineSlide on f c) (power-same up info h) ∙ amiga-equal _ on
 
 -- S2x
-pub finetune-same : (c : Channel) (p : ℕ) (on : Bool) → finetune on p c ≡ finetuned c p on
+pub finetune-same : (c : Channel) (p : ℕ) (on : Bool) → c .fixed .transposition ≡ pos 0 → finetune on p c ≡ finetuned c p on
 unfolding finetune finetuned withPitch finetuneOf
-finetune-same c p on =
+finetune-same c p on z =
     ap (λ (f : Float). pick (not (eqb (c .«last_note») 0)) («clamp_amiga» («ch_target_frequency» («ch_frequency» c f) f) on) c)
-    (frequency-equal (c .«last_note») (getD «S2X_FINETUNE_TABLE» p 0) ∙ ap (λ (table : List ℕ). noteFrequency (c .«last_note») (getD table p 0)) finetune-table-equal)
+    (frequency-equal (c .«last_note») (getD «S2X_FINETUNE_TABLE» p 0)
+    ∙ (λ i. noteFrequency (c .«last_note») (sym z i) (getD (finetune-table-equal i) p 0)))
     ∙ opposite (eqb (c .«last_note») 0) _ c
     ∙ ap (λ (d : Channel). pick (eqb (c .«last_note») 0) c d) (amiga-equal _ on)
 
@@ -80,12 +81,12 @@ bit : (p : ℕ) → not (eqb (p / 4 % 2) 0) ≡ keepsPosition p
 bit p = two (p / 4 % 2) (omega arith)
 
 -- S3x and S4x
-pub vibrato-same : (c : Channel) (p : ℕ) → setVibrato p c ≡ withVibrato c (waveformOf p) (keepsPosition p)
-unfolding setVibrato withVibrato waveformOf «from_nibble»
+pub vibrato-same : (c : Channel) (p : ℕ) → setVibrato p c ≡ withVibrato c (shaped (c .vibrato) p)
+unfolding setVibrato withVibrato shaped waveformOf «from_nibble»
 vibrato-same c p = ap («ch_keep_vibrato_pos_on_new_note» («ch_vibrato_waveform» c (waveformOf p))) (bit p)
 
-pub tremolo-same : (c : Channel) (p : ℕ) → setTremolo p c ≡ withTremolo c (waveformOf p) (keepsPosition p)
-unfolding setTremolo withTremolo waveformOf «from_nibble»
+pub tremolo-same : (c : Channel) (p : ℕ) → setTremolo p c ≡ withTremolo c (shaped (c .tremolo) p)
+unfolding setTremolo withTremolo shaped waveformOf «from_nibble»
 tremolo-same c p = ap («ch_keep_tremolo_pos_on_new_note» («ch_tremolo_waveform» c (waveformOf p))) (bit p)
 
 below-four : (P : ℕ → Type 0) → P 0 → P 1 → P 2 → P 3 → (p : ℕ) → p < 4 → P p
@@ -114,8 +115,8 @@ stereo-by p r n = by (ltb p 4) refl
         (last (leb p 7) refl)
 
 -- SAx
-pub stereo-same : (c : Channel) (p : ℕ) → oldStereo p c ≡ withPan c (stereoPan p (c .«right_bank») (c .pan))
+pub stereo-same : (c : Channel) (p : ℕ) → oldStereo p c ≡ withPan c (stereoPan p (c .fixed .«right_bank») (c .pan))
 unfolding oldStereo withPan
 stereo-same c p =
     sym (push («ch_pan» c) (eqb p 0 || eqb p 2) refl (push («ch_pan» c) (eqb p 1 || eqb p 3) refl (push («ch_pan» c) (leb 4 p && leb p 7) refl refl)))
-    ∙ ap («ch_pan» c) (stereo-by p (c .«right_bank») (c .pan))
+    ∙ ap («ch_pan» c) (stereo-by p (c .fixed .«right_bank») (c .pan))

@@ -18,7 +18,7 @@ use Rattle.channel.specs.declared.state.Switches.{Switches}
 use Rattle.channel.specs.Levels.{silence, volumeSlid, stereoPan, setPan}
 use Rattle.channel.specs.Set.{withDelay, withInstrument, withStored, withVoice, withCut, withPitch, withNote, withStart, withVolume, withLatch, withPan, withGlissando, withVibrato, withTremolo}
 use Rattle.channel.specs.Play.{unstruck, strikes, loadedFrom, loaded, cut, aimed, voiceOf, started, slides, noteOn, slidBack, noted, volumed, volumedAfter, instrumentOf, playCell}
-use Rattle.channel.specs.Commands.{fineSlid, finetuned, waveformOf, keepsPosition, extendedBy, commanded}
+use Rattle.channel.specs.Commands.{fineSlid, finetuned, shaped, extendedBy, commanded}
 use Rattle.channel.specs.Row.{putsOff, putOff, withInfo, delivered, relatched}
 use Rattle.original.specs.Fields.{«ch_effect_memory»}
 
@@ -41,7 +41,7 @@ module _ (f : List ℕ → List ℕ) where
 
   cut-over : (c : Channel) → cut (over c) ≡ over (cut c)
   unfolding cut withVoice withCut
-  cut-over c = sym (push over (c .adlib && not (eqb (c .«opl_voice») 0)) refl refl)
+  cut-over c = sym (push over (c .fixed .adlib && not (eqb (c .«opl_voice») 0)) refl refl)
 
   aim-over : (c : Channel) (n : ℕ) (x : Float) (a : Bool) → aimed (over c) n x a ≡ over (aimed c n x a)
   unfolding aimed withNote withPitch
@@ -110,11 +110,11 @@ module _ (f : List ℕ → List ℕ) where
   unfolding withGlissando
   glissando-over v c = refl
 
-  vibrato-over : (p : ℕ) → Through (λ c. withVibrato c (waveformOf p) (keepsPosition p))
+  vibrato-over : (p : ℕ) → Through (λ c. withVibrato c (shaped (c .vibrato) p))
   unfolding withVibrato
   vibrato-over p c = refl
 
-  tremolo-over : (p : ℕ) → Through (λ c. withTremolo c (waveformOf p) (keepsPosition p))
+  tremolo-over : (p : ℕ) → Through (λ c. withTremolo c (shaped (c .tremolo) p))
   unfolding withTremolo
   tremolo-over p c = refl
 
@@ -122,7 +122,7 @@ module _ (f : List ℕ → List ℕ) where
   unfolding withPan
   pan-over p c = refl
 
-  stereo-over : (p : ℕ) → Through (λ c. withPan c (stereoPan p (c .«right_bank») (c .pan)))
+  stereo-over : (p : ℕ) → Through (λ c. withPan c (stereoPan p (c .fixed .«right_bank») (c .pan)))
   unfolding withPan
   stereo-over p c = refl
 
@@ -137,24 +137,24 @@ module _ (f : List ℕ → List ℕ) where
   -- S in two halves
   extendedFrom : ℕ → ℕ → Channel → Channel
   extendedFrom x p c =
-      pick (eqb x 4) (withTremolo c (waveformOf p) (keepsPosition p))
+      pick (eqb x 4) (withTremolo c (shaped (c .tremolo) p))
       (pick (eqb x 8) (withPan c p)
-      (pick (eqb x 10) (withPan c (stereoPan p (c .«right_bank») (c .pan)))
+      (pick (eqb x 10) (withPan c (stereoPan p (c .fixed .«right_bank») (c .pan)))
       c))
 
   extended-from-over : (x p : ℕ) → Through (extendedFrom x p)
   unfolding extendedFrom
   extended-from-over x p =
-      test (λ _. eqb x 4) (λ c. withTremolo c (waveformOf p) (keepsPosition p)) _ (λ _. refl) (tremolo-over p)
+      test (λ _. eqb x 4) (λ c. withTremolo c (shaped (c .tremolo) p)) _ (λ _. refl) (tremolo-over p)
       (test (λ _. eqb x 8) (λ c. withPan c p) _ (λ _. refl) (pan-over p)
-      (test (λ _. eqb x 10) (λ c. withPan c (stereoPan p (c .«right_bank») (c .pan))) (λ c. c) (λ _. refl) (stereo-over p) same))
+      (test (λ _. eqb x 10) (λ c. withPan c (stereoPan p (c .fixed .«right_bank») (c .pan))) (λ c. c) (λ _. refl) (stereo-over p) same))
 
   extended-over : (x p : ℕ) (a : Bool) → Through (λ c. extendedBy c x p a)
   unfolding extendedBy extendedFrom
   extended-over x p a =
       test (λ _. eqb x 1) (λ c. withGlissando c (not (eqb p 0))) _ (λ _. refl) (glissando-over (not (eqb p 0)))
       (test (λ _. eqb x 2) (λ c. finetuned c p a) _ (λ _. refl) (tune-over p a)
-      (test (λ _. eqb x 3) (λ c. withVibrato c (waveformOf p) (keepsPosition p)) (extendedFrom x p) (λ _. refl) (vibrato-over p) (extended-from-over x p)))
+      (test (λ _. eqb x 3) (λ c. withVibrato c (shaped (c .vibrato) p)) (extendedFrom x p) (λ _. refl) (vibrato-over p) (extended-from-over x p)))
 
   -- the commands in two halves
   commandedFrom : Switches → Channel → Channel

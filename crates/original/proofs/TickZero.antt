@@ -4,6 +4,7 @@ use mathlib.Core.Path.{_≡_, refl, sym, ap, _∙_}
 use mathlib.Core.Bool.{Bool, true, false, _&&_, _||_, not}
 use borrow.Author.Tests.{not-true, not-false, eqb-true, leb-true, leb-false, lt-ltb, le-ltb}
 use lib.Dec.{eqb, ltb, leb}
+use lib.IntN.{pos}
 use Rattle.laws.specs.Choice.{pick}
 use Rattle.laws.proofs.Picks.{push, chain, guarded}
 use Rattle.pitch.specs.Limits.{limited}
@@ -29,12 +30,12 @@ abbrev aOf : Tick → Locals
 aOf t = t .a
 
 -- the channel's part of S
-extended-ch : (c : Channel) (a : Locals) (on : Bool) (s p : ℕ) → extended on s p (record { ch = c; a = a }) .ch ≡ extendedBy c s p on
+extended-ch : (c : Channel) (a : Locals) (on : Bool) (s p : ℕ) → c .fixed .transposition ≡ pos 0 → extended on s p (record { ch = c; a = a }) .ch ≡ extendedBy c s p on
 unfolding extended extendedBy withGlissando withPan
-extended-ch c a on s p =
+extended-ch c a on s p z =
     chain chOf (eqb s 0) (λ e. rw (eqb-true s 0 e))
     (λ _. chain chOf (eqb s 1) (λ e. rw (eqb-true s 1 e))
-    (λ e1. chain chOf (eqb s 2) (λ e. rw (eqb-true s 2 e) (finetune-same c p on))
+    (λ e1. chain chOf (eqb s 2) (λ e. rw (eqb-true s 2 e) (finetune-same c p on z))
     (λ e2. chain chOf (eqb s 3) (λ e. rw (eqb-true s 3 e) (vibrato-same c p))
     (λ e3. chain chOf (eqb s 4) (λ e. rw (eqb-true s 4 e) (tremolo-same c p))
     (λ e4. chain chOf (eqb s 8) (λ e. rw (eqb-true s 8 e))
@@ -68,9 +69,9 @@ module _ (m : Song) (w : Switches) (am : m .«amiga_limits» ≡ w .«amiga_limi
       rw e (fine-slide-same c up (m .«amiga_limits») i (leb-true 0xE0 i e)
       ∙ ap (λ (on : Bool). withPitch c (limited on (slid (c .frequency) (factorNumber up i))) (limited on (slid (c .«target_frequency») (factorNumber up i)))) am)
 
-  tick-by : (k i : ℕ) (c : Channel) (a : Locals) → tickZero m k i (record { ch = c; a = a }) .ch ≡ commandedBy k i c w
+  tick-by : (k i : ℕ) (c : Channel) (a : Locals) → c .fixed .transposition ≡ pos 0 → tickZero m k i (record { ch = c; a = a }) .ch ≡ commandedBy k i c w
   unfolding tickZero commandedBy withPan
-  tick-by k i c a =
+  tick-by k i c a z =
       chain chOf (eqb k 1 && not (eqb i 0)) (λ e. rw (eqb-true k 1 (and-first _ _ e)))
       (λ _. chain chOf (eqb k 2) (λ e. rw (eqb-true k 2 e))
       (λ _. chain chOf (eqb k 3) (λ e. rw (eqb-true k 3 e) (chain chOf (ltb (breakTo i) 64) (λ _. refl) (λ _. refl)))
@@ -81,12 +82,12 @@ module _ (m : Song) (w : Switches) (am : m .«amiga_limits» ≡ w .«amiga_limi
       (λ _. chain chOf (eqb k 9 && (not (eqb (i / 16) 0) || not (eqb (i % 16) 0))) (λ e. rw (eqb-true k 9 (and-first _ _ e)))
       (λ _. chain chOf (eqb k 20 && leb 32 i) (λ e. rw (eqb-true k 20 (and-first _ _ e)))
       (λ _. chain chOf (eqb k 22 && leb i 64) (λ e. rw (eqb-true k 22 (and-first _ _ e)))
-      (λ _. chain chOf (eqb k 19) (λ e. rw (eqb-true k 19 e) (extended-ch c a (m .«amiga_limits») (i / 16) (i % 16) ∙ ap (extendedBy c (i / 16) (i % 16)) am))
+      (λ _. chain chOf (eqb k 19) (λ e. rw (eqb-true k 19 e) (extended-ch c a (m .«amiga_limits») (i / 16) (i % 16) z ∙ ap (extendedBy c (i / 16) (i % 16)) am))
       (λ e19. chain chOf (eqb k 24) (λ e. rw (eqb-true k 24 e))
       (λ e24. sym (second (eqb k 4) _ e4 (guarded (eqb k 5) (leb 0xE0 i) _ e5 (guarded (eqb k 6) (leb 0xE0 i) _ e6 (second (eqb k 19) _ e19 (second (eqb k 24) _ e24 refl)))))))))))))))))
 
-  pub tick-ch : (c : Channel) (a : Locals) → tickZero m (c .command) (c .info) (record { ch = c; a = a }) .ch ≡ commanded c w
-  tick-ch c a = tick-by (c .command) (c .info) c a ∙ sym (commanded-by c w)
+  pub tick-ch : (c : Channel) (a : Locals) → c .fixed .transposition ≡ pos 0 → tickZero m (c .command) (c .info) (record { ch = c; a = a }) .ch ≡ commanded c w
+  tick-ch c a z = tick-by (c .command) (c .info) c a z ∙ sym (commanded-by c w)
 
 -- what the locals hear of S
 abbrev pub spokenS : ℕ → ℕ → Locals → Locals

@@ -1,6 +1,6 @@
 -- The two walks side by side: a state that is accepted gives the same states and the same records row by row. Assumes nothing.
 use Prim.Native.Nat.{ℕ, zero, suc}
-use mathlib.Core.Path.{_≡_, refl, sym, ap, _∙_}
+use mathlib.Core.Path.{_≡_, refl, sym, ap, _∙_, subst}
 use mathlib.Core.Bool.{Bool, true, false, false≢true}
 use mathlib.Core.List.{List}
 use Rattle.laws.specs.Choice.{pick}
@@ -30,12 +30,13 @@ use Rattle.original.specs.New.{«Channel::default»}
 use Rattle.original.specs.Player.{«next_row»}
 use Rattle.original.specs.Map.{songOf, playerOf, stateMap, waitingIn, rowFrom, isSome, patternThere, playedMap, enteredMap}
 use Rattle.original.specs.Turns.{onFrom, turns, ReadOff, noneRead, oneRead, readFrom, rowsRead}
+use Rattle.original.specs.Untransposed.{Untransposed}
 use Rattle.original.specs.Call.{readFor}
 use Rattle.original.proofs.Arms.{first, second}
 use Rattle.original.proofs.Entering.{entering-same}
 use Rattle.original.proofs.Leaving.{going-there, map-played, leaving-same, behind}
 use Rattle.original.proofs.Reading.{clock-read, record-read}
-use Rattle.original.proofs.Staying.{behind-sound, behind-shaped}
+use Rattle.original.proofs.Staying.{behind-sound, behind-shaped, voices-untransposed, behind-untransposed}
 
 -- a row that ended the tune leaves the channels, and no jump waits
 closed-by : (cells : List ℕ) (s : State) (t : Tables) (at : ℕ) (x : ByteOption) → s .path .ended ≡ false → enteredAt cells (s .path) at x .path .ended ≡ true
@@ -76,6 +77,13 @@ walk-keeps t n s =
     let m = walk-machines t n s in
     (ap (λ (w : Walked). w .state .switches) m, ap (λ (w : Walked). w .state .path .clock .rate) m ∙ rate-walked t n (s .path))
 
+-- and every channel's transposition, where it is 0
+pub walk-untransposed : (t : Tables) (n : ℕ) (s : State) → Untransposed (s .channels) → Untransposed (walk t n s .state .channels)
+unfolding machines stateWith
+walk-untransposed t n s z =
+    subst (λ (w : Walked). Untransposed (w .state .channels)) (sym (walk-machines t n s))
+    (voices-untransposed t (s .switches) (pathWalk (t .orders) (t .cells) n (s .path) .rows) (voicesOf s) z)
+
 -- what our walk gives to be read
 abbrev pub readOff : Walked → ReadOff
 readOff w = record { records = w .records; clock = w .state .path .clock }
@@ -105,13 +113,13 @@ module _ (t : Tables) (rule : Sized (t .orders) (t .cells) (t .samples)) (bytes 
   unfolding turns playerOf goOn stepBy stateWith
   ended-equal n s e = first (s .path .ended) _ e refl
 
-  going-equal : (n : ℕ) (s : State) → Shaped s → Sound (s .path) → s .path .ended ≡ false
+  going-equal : (n : ℕ) (s : State) → Shaped s → Untransposed (s .channels) → Sound (s .path) → s .path .ended ≡ false
       → turns (songOf t (s .switches)) n (stateMap (behind t s)) ≡ stateMap (walk t n (behind t s) .state)
       → turns (songOf t (s .switches)) (suc n) (stateMap s) ≡ stateMap (goOn (stepBy t s (turnBy (t .orders) (rowFrom t s))) (walk t n) .state)
   unfolding turns playerOf
-  going-equal n s shaped sound e more =
+  going-equal n s shaped untransposed sound e more =
       second (s .path .ended) _ e
-      (ap (onFrom (turns (songOf t (s .switches)) n) (songOf t (s .switches))) (entering-same t s rule bytes (shaped .channels) (λ i. shaped .channel i «Channel::default») (shaped .infos) (sound .row))
+      (ap (onFrom (turns (songOf t (s .switches)) n) (songOf t (s .switches))) (entering-same t s rule bytes (shaped .channels) (λ i. shaped .channel i «Channel::default») untransposed (shaped .infos) (sound .row))
       ∙ on-equal n s e (λ _. more))
 
   same-switches : (n : ℕ) (s : State) → turns (songOf t (behind t s .switches)) n (stateMap (behind t s)) ≡ turns (songOf t (s .switches)) n (stateMap (behind t s))
@@ -119,17 +127,17 @@ module _ (t : Tables) (rule : Sized (t .orders) (t .cells) (t .samples)) (bytes 
   same-switches n s = refl
 
   -- states
-  pub turns-equal : (n : ℕ) (s : State) → Shaped s → Sound (s .path) → turns (songOf t (s .switches)) n (stateMap s) ≡ stateMap (walk t n s .state)
+  pub turns-equal : (n : ℕ) (s : State) → Shaped s → Untransposed (s .channels) → Sound (s .path) → turns (songOf t (s .switches)) n (stateMap s) ≡ stateMap (walk t n s .state)
   unfolding turns walk step turn
-  turns-equal zero s shaped sound = refl
-  turns-equal (suc n) s shaped sound =
+  turns-equal zero s shaped untransposed sound = refl
+  turns-equal (suc n) s shaped untransposed sound =
       by (s .path .ended) refl
-      (sym (same-switches n s) ∙ turns-equal n (behind t s) (behind-shaped t s rule bytes shaped sound) (behind-sound t s rule bytes shaped sound))
+      (sym (same-switches n s) ∙ turns-equal n (behind t s) (behind-shaped t s rule bytes shaped sound) (behind-untransposed t s untransposed) (behind-sound t s rule bytes shaped sound))
     where
       by : (b : Bool) → s .path .ended ≡ b → turns (songOf t (s .switches)) n (stateMap (behind t s)) ≡ stateMap (walk t n (behind t s) .state)
           → turns (songOf t (s .switches)) (suc n) (stateMap s) ≡ stateMap (goOn (stepBy t s (pick b (Stop (s .path)) (turnBy (t .orders) (rowFrom t s)))) (walk t n) .state)
       by true e more = ended-equal n s e
-      by false e more = going-equal n s shaped sound e more
+      by false e more = going-equal n s shaped untransposed sound e more
 
   entered-ended : (s : State) → enteredMap t s (rowFrom t s) .ended ≡ rowFrom t s .path .ended
   unfolding enteredMap playerOf
@@ -165,23 +173,23 @@ module _ (t : Tables) (rule : Sized (t .orders) (t .cells) (t .samples)) (bytes 
   unfolding rowsRead playerOf goOn stepBy stateWith
   ended-reads n s e = first (s .path .ended) _ e refl
 
-  going-reads : (n : ℕ) (s : State) → Shaped s → Sound (s .path) → s .path .ended ≡ false → readFor t (behind t s) n ≡ readOff (walk t n (behind t s))
+  going-reads : (n : ℕ) (s : State) → Shaped s → Untransposed (s .channels) → Sound (s .path) → s .path .ended ≡ false → readFor t (behind t s) n ≡ readOff (walk t n (behind t s))
       → readFor t s (suc n) ≡ readOff (goOn (stepBy t s (turnBy (t .orders) (rowFrom t s))) (walk t n))
   unfolding rowsRead playerOf
-  going-reads n s shaped sound e more =
+  going-reads n s shaped untransposed sound e more =
       second (s .path .ended) _ e
       (ap (readFrom (rowsRead (songOf t (s .switches)) n) (songOf t (s .switches)) (s .path .clock))
-      (entering-same t s rule bytes (shaped .channels) (λ i. shaped .channel i «Channel::default») (shaped .infos) (sound .row))
+      (entering-same t s rule bytes (shaped .channels) (λ i. shaped .channel i «Channel::default») untransposed (shaped .infos) (sound .row))
       ∙ read-on n s sound e more)
 
   -- records, and the clock behind them
-  pub reads-equal : (n : ℕ) (s : State) → Shaped s → Sound (s .path) → readFor t s n ≡ readOff (walk t n s)
+  pub reads-equal : (n : ℕ) (s : State) → Shaped s → Untransposed (s .channels) → Sound (s .path) → readFor t s n ≡ readOff (walk t n s)
   unfolding rowsRead walk step turn
-  reads-equal zero s shaped sound = refl
-  reads-equal (suc n) s shaped sound =
-      by (s .path .ended) refl (reads-equal n (behind t s) (behind-shaped t s rule bytes shaped sound) (behind-sound t s rule bytes shaped sound))
+  reads-equal zero s shaped untransposed sound = refl
+  reads-equal (suc n) s shaped untransposed sound =
+      by (s .path .ended) refl (reads-equal n (behind t s) (behind-shaped t s rule bytes shaped sound) (behind-untransposed t s untransposed) (behind-sound t s rule bytes shaped sound))
     where
       by : (b : Bool) → s .path .ended ≡ b → readFor t (behind t s) n ≡ readOff (walk t n (behind t s))
           → readFor t s (suc n) ≡ readOff (goOn (stepBy t s (pick b (Stop (s .path)) (turnBy (t .orders) (rowFrom t s)))) (walk t n))
       by true e more = ended-reads n s e
-      by false e more = going-reads n s shaped sound e more
+      by false e more = going-reads n s shaped untransposed sound e more

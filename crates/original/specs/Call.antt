@@ -11,6 +11,7 @@ use Rattle.section.specs.declared.state.Sectioned.{Sectioned}
 use Rattle.original.specs.State.{PlayerState}
 use Rattle.original.specs.Map.{songOf, stateMap}
 use Rattle.original.specs.Turns.{turns, ReadOff, rowsRead}
+use Rattle.original.specs.Untransposed.{Untransposed}
 
 -- the Rust, up to n rows on from a state
 abbrev pub turnsFrom : Tables → State → ℕ → PlayerState
@@ -24,7 +25,7 @@ readFor t s n = rowsRead (songOf t (s .switches)) n (s .path .clock) (stateMap s
 abbrev pub inFront : List (List ℕ) → List ℕ → List ℕ
 inFront records before = joined records ++ drop (recordSize * length records) before
 
--- Section(n) on lent tables from a state s, with an output that held `before`: its answer r and what the output holds `after`
+-- Section(n) on lent tables from an untransposed state s, with an output that held `before`: its answer r and what the output holds `after`
 pub record AsOriginal (t : Tables) (s : State) (n : ℕ) (before after : List ℕ) (r : Sectioned) : Type 0 where
   -- the state that it gives maps to where the Rust is
   pub state : stateMap (r .state) ≡ turnsFrom t s n
@@ -38,3 +39,5 @@ pub record AsOriginal (t : Tables) (s : State) (n : ℕ) (before after : List �
   pub switches : r .state .switches ≡ s .switches
   pub rate : r .state .path .clock .rate ≡ s .path .clock .rate
   pub clock : r .state .path .clock ≡ readFor t s n .clock
+  -- every channel's transposition is 0 again, as a call from the state that it gives asks
+  pub untransposed : Untransposed (r .state .channels)

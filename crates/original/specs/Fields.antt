@@ -3,21 +3,23 @@ use Prim.Native.Nat.{ℕ}
 use mathlib.Core.Bool.{Bool}
 use mathlib.Core.List.{List}
 use lib.Ieee.{Float}
+use Rattle.tune.specs.declared.opening.Fixed.{Fixed}
 use Rattle.row_path.specs.declared.option.ByteOption.{ByteOption}
 use Rattle.row_path.specs.declared.loops.Jump.{Jump}
 use Rattle.channel.specs.declared.state.Channel.{Channel}
+use Rattle.channel.specs.declared.state.Oscillator.{Oscillator}
+use Rattle.channel.specs.declared.state.Tremor.{Tremor}
 use Rattle.channel.specs.declared.state.TriggerOption.{TriggerOption}
 use Rattle.channel.specs.declared.state.Waveform.{Waveform}
 use Rattle.original.specs.State.{Locals, PlayerState}
 
--- a channel by its fields in their order
+-- a channel by its fields in the Rust's order
 abbrev channel :
-    ℕ → Float → Float → ℕ → ℕ → Bool → Float → ℕ → ℕ → ℕ → ℕ → ℕ → TriggerOption → Bool → Waveform → Waveform → ℕ → ℕ → ℕ → ℕ → Bool →
-    Bool → List ℕ → Bool → Bool → Bool → Bool → ℕ → ℕ → Channel
+    ℕ → Float → Float → ℕ → ℕ → Bool → Float → ℕ → ℕ → Oscillator → Oscillator → ℕ → TriggerOption → Bool → ℕ → Tremor → ℕ → List ℕ → Bool → Fixed →
+    ℕ → ℕ → Channel
 channel
-    instrument frequency samplePos volume pan active targetFrequency command info vibratoPos tremoloPos lastNote pendingDelay glissando
-    vibratoWaveform tremoloWaveform retrigCounter tremorOnCounter tremorOffCounter storedVolume keepVibratoPosOnNewNote
-    keepTremoloPosOnNewNote effectMemory muted frozen rightBank adlib oplVoice voiceGlobalVol =
+    instrument frequency samplePos volume pan active targetFrequency command info vibrato tremolo lastNote pendingDelay glissando retrigCounter tremor
+    storedVolume effectMemory frozen fixed oplVoice voiceGlobalVol =
     record {
       instrument = instrument;
       frequency = frequency;
@@ -28,244 +30,175 @@ channel
       «target_frequency» = targetFrequency;
       command = command;
       info = info;
-      «vibrato_pos» = vibratoPos;
-      «tremolo_pos» = tremoloPos;
+      vibrato = vibrato;
+      tremolo = tremolo;
       «last_note» = lastNote;
       «pending_delay» = pendingDelay;
       glissando = glissando;
-      «vibrato_waveform» = vibratoWaveform;
-      «tremolo_waveform» = tremoloWaveform;
       «retrig_counter» = retrigCounter;
-      «tremor_on_counter» = tremorOnCounter;
-      «tremor_off_counter» = tremorOffCounter;
+      tremor = tremor;
       «stored_volume» = storedVolume;
-      «keep_vibrato_pos_on_new_note» = keepVibratoPosOnNewNote;
-      «keep_tremolo_pos_on_new_note» = keepTremoloPosOnNewNote;
       «effect_memory» = effectMemory;
-      muted = muted;
       frozen = frozen;
-      «right_bank» = rightBank;
-      adlib = adlib;
+      fixed = fixed;
       «opl_voice» = oplVoice;
       «voice_global_vol» = voiceGlobalVol;
     }
 
--- `ch.command = x`, and so on
+-- a vibrato or a tremolo: the Rust has these fields in the channel itself
+abbrev oscillator : ℕ → Waveform → Bool → Oscillator
+oscillator pos waveform keep = record { pos = pos; waveform = waveform; «keep_pos_on_new_note» = keep }
+
+-- `ch.command = x`, and so on; `ch.vibrato_pos = x` writes `vibrato`
 abbrev pub «ch_command» : Channel → ℕ → Channel
 «ch_command» c x =
-    channel (c .instrument) (c .frequency) (c .«sample_pos») (c .volume) (c .pan) (c .active) (c .«target_frequency») x (c .info)
-    (c .«vibrato_pos») (c .«tremolo_pos») (c .«last_note») (c .«pending_delay») (c .glissando) (c .«vibrato_waveform»)
-    (c .«tremolo_waveform») (c .«retrig_counter») (c .«tremor_on_counter») (c .«tremor_off_counter») (c .«stored_volume»)
-    (c .«keep_vibrato_pos_on_new_note») (c .«keep_tremolo_pos_on_new_note») (c .«effect_memory») (c .muted) (c .frozen) (c .«right_bank»)
-    (c .adlib) (c .«opl_voice») (c .«voice_global_vol»)
+    channel (c .instrument) (c .frequency) (c .«sample_pos») (c .volume) (c .pan) (c .active) (c .«target_frequency») x (c .info) (c .vibrato)
+    (c .tremolo) (c .«last_note») (c .«pending_delay») (c .glissando) (c .«retrig_counter») (c .tremor) (c .«stored_volume») (c .«effect_memory»)
+    (c .frozen) (c .fixed) (c .«opl_voice») (c .«voice_global_vol»)
 
 abbrev pub «ch_info» : Channel → ℕ → Channel
 «ch_info» c x =
-    channel (c .instrument) (c .frequency) (c .«sample_pos») (c .volume) (c .pan) (c .active) (c .«target_frequency») (c .command) x
-    (c .«vibrato_pos») (c .«tremolo_pos») (c .«last_note») (c .«pending_delay») (c .glissando) (c .«vibrato_waveform»)
-    (c .«tremolo_waveform») (c .«retrig_counter») (c .«tremor_on_counter») (c .«tremor_off_counter») (c .«stored_volume»)
-    (c .«keep_vibrato_pos_on_new_note») (c .«keep_tremolo_pos_on_new_note») (c .«effect_memory») (c .muted) (c .frozen) (c .«right_bank»)
-    (c .adlib) (c .«opl_voice») (c .«voice_global_vol»)
+    channel (c .instrument) (c .frequency) (c .«sample_pos») (c .volume) (c .pan) (c .active) (c .«target_frequency») (c .command) x (c .vibrato)
+    (c .tremolo) (c .«last_note») (c .«pending_delay») (c .glissando) (c .«retrig_counter») (c .tremor) (c .«stored_volume») (c .«effect_memory»)
+    (c .frozen) (c .fixed) (c .«opl_voice») (c .«voice_global_vol»)
 
 abbrev pub «ch_frozen» : Channel → Bool → Channel
 «ch_frozen» c x =
     channel (c .instrument) (c .frequency) (c .«sample_pos») (c .volume) (c .pan) (c .active) (c .«target_frequency») (c .command) (c .info)
-    (c .«vibrato_pos») (c .«tremolo_pos») (c .«last_note») (c .«pending_delay») (c .glissando) (c .«vibrato_waveform»)
-    (c .«tremolo_waveform») (c .«retrig_counter») (c .«tremor_on_counter») (c .«tremor_off_counter») (c .«stored_volume»)
-    (c .«keep_vibrato_pos_on_new_note») (c .«keep_tremolo_pos_on_new_note») (c .«effect_memory») (c .muted) x (c .«right_bank») (c .adlib)
-    (c .«opl_voice») (c .«voice_global_vol»)
+    (c .vibrato) (c .tremolo) (c .«last_note») (c .«pending_delay») (c .glissando) (c .«retrig_counter») (c .tremor) (c .«stored_volume»)
+    (c .«effect_memory») x (c .fixed) (c .«opl_voice») (c .«voice_global_vol»)
 
 abbrev pub «ch_effect_memory» : Channel → List ℕ → Channel
 «ch_effect_memory» c x =
     channel (c .instrument) (c .frequency) (c .«sample_pos») (c .volume) (c .pan) (c .active) (c .«target_frequency») (c .command) (c .info)
-    (c .«vibrato_pos») (c .«tremolo_pos») (c .«last_note») (c .«pending_delay») (c .glissando) (c .«vibrato_waveform»)
-    (c .«tremolo_waveform») (c .«retrig_counter») (c .«tremor_on_counter») (c .«tremor_off_counter») (c .«stored_volume»)
-    (c .«keep_vibrato_pos_on_new_note») (c .«keep_tremolo_pos_on_new_note») x (c .muted) (c .frozen) (c .«right_bank») (c .adlib)
-    (c .«opl_voice») (c .«voice_global_vol»)
+    (c .vibrato) (c .tremolo) (c .«last_note») (c .«pending_delay») (c .glissando) (c .«retrig_counter») (c .tremor) (c .«stored_volume») x
+    (c .frozen) (c .fixed) (c .«opl_voice») (c .«voice_global_vol»)
 
 abbrev pub «ch_pending_delay» : Channel → TriggerOption → Channel
 «ch_pending_delay» c x =
     channel (c .instrument) (c .frequency) (c .«sample_pos») (c .volume) (c .pan) (c .active) (c .«target_frequency») (c .command) (c .info)
-    (c .«vibrato_pos») (c .«tremolo_pos») (c .«last_note») x (c .glissando) (c .«vibrato_waveform») (c .«tremolo_waveform»)
-    (c .«retrig_counter») (c .«tremor_on_counter») (c .«tremor_off_counter») (c .«stored_volume») (c .«keep_vibrato_pos_on_new_note»)
-    (c .«keep_tremolo_pos_on_new_note») (c .«effect_memory») (c .muted) (c .frozen) (c .«right_bank») (c .adlib) (c .«opl_voice»)
-    (c .«voice_global_vol»)
+    (c .vibrato) (c .tremolo) (c .«last_note») x (c .glissando) (c .«retrig_counter») (c .tremor) (c .«stored_volume») (c .«effect_memory»)
+    (c .frozen) (c .fixed) (c .«opl_voice») (c .«voice_global_vol»)
 
 abbrev pub «ch_retrig_counter» : Channel → ℕ → Channel
 «ch_retrig_counter» c x =
     channel (c .instrument) (c .frequency) (c .«sample_pos») (c .volume) (c .pan) (c .active) (c .«target_frequency») (c .command) (c .info)
-    (c .«vibrato_pos») (c .«tremolo_pos») (c .«last_note») (c .«pending_delay») (c .glissando) (c .«vibrato_waveform»)
-    (c .«tremolo_waveform») x (c .«tremor_on_counter») (c .«tremor_off_counter») (c .«stored_volume») (c .«keep_vibrato_pos_on_new_note»)
-    (c .«keep_tremolo_pos_on_new_note») (c .«effect_memory») (c .muted) (c .frozen) (c .«right_bank») (c .adlib) (c .«opl_voice»)
-    (c .«voice_global_vol»)
+    (c .vibrato) (c .tremolo) (c .«last_note») (c .«pending_delay») (c .glissando) x (c .tremor) (c .«stored_volume») (c .«effect_memory») (c .frozen)
+    (c .fixed) (c .«opl_voice») (c .«voice_global_vol»)
 
 abbrev pub «ch_instrument» : Channel → ℕ → Channel
 «ch_instrument» c x =
-    channel x (c .frequency) (c .«sample_pos») (c .volume) (c .pan) (c .active) (c .«target_frequency») (c .command) (c .info)
-    (c .«vibrato_pos») (c .«tremolo_pos») (c .«last_note») (c .«pending_delay») (c .glissando) (c .«vibrato_waveform»)
-    (c .«tremolo_waveform») (c .«retrig_counter») (c .«tremor_on_counter») (c .«tremor_off_counter») (c .«stored_volume»)
-    (c .«keep_vibrato_pos_on_new_note») (c .«keep_tremolo_pos_on_new_note») (c .«effect_memory») (c .muted) (c .frozen) (c .«right_bank»)
-    (c .adlib) (c .«opl_voice») (c .«voice_global_vol»)
+    channel x (c .frequency) (c .«sample_pos») (c .volume) (c .pan) (c .active) (c .«target_frequency») (c .command) (c .info) (c .vibrato)
+    (c .tremolo) (c .«last_note») (c .«pending_delay») (c .glissando) (c .«retrig_counter») (c .tremor) (c .«stored_volume») (c .«effect_memory»)
+    (c .frozen) (c .fixed) (c .«opl_voice») (c .«voice_global_vol»)
 
 abbrev pub «ch_volume» : Channel → ℕ → Channel
 «ch_volume» c x =
-    channel (c .instrument) (c .frequency) (c .«sample_pos») x (c .pan) (c .active) (c .«target_frequency») (c .command) (c .info)
-    (c .«vibrato_pos») (c .«tremolo_pos») (c .«last_note») (c .«pending_delay») (c .glissando) (c .«vibrato_waveform»)
-    (c .«tremolo_waveform») (c .«retrig_counter») (c .«tremor_on_counter») (c .«tremor_off_counter») (c .«stored_volume»)
-    (c .«keep_vibrato_pos_on_new_note») (c .«keep_tremolo_pos_on_new_note») (c .«effect_memory») (c .muted) (c .frozen) (c .«right_bank»)
-    (c .adlib) (c .«opl_voice») (c .«voice_global_vol»)
+    channel (c .instrument) (c .frequency) (c .«sample_pos») x (c .pan) (c .active) (c .«target_frequency») (c .command) (c .info) (c .vibrato)
+    (c .tremolo) (c .«last_note») (c .«pending_delay») (c .glissando) (c .«retrig_counter») (c .tremor) (c .«stored_volume») (c .«effect_memory»)
+    (c .frozen) (c .fixed) (c .«opl_voice») (c .«voice_global_vol»)
 
 abbrev pub «ch_stored_volume» : Channel → ℕ → Channel
 «ch_stored_volume» c x =
     channel (c .instrument) (c .frequency) (c .«sample_pos») (c .volume) (c .pan) (c .active) (c .«target_frequency») (c .command) (c .info)
-    (c .«vibrato_pos») (c .«tremolo_pos») (c .«last_note») (c .«pending_delay») (c .glissando) (c .«vibrato_waveform»)
-    (c .«tremolo_waveform») (c .«retrig_counter») (c .«tremor_on_counter») (c .«tremor_off_counter») x (c .«keep_vibrato_pos_on_new_note»)
-    (c .«keep_tremolo_pos_on_new_note») (c .«effect_memory») (c .muted) (c .frozen) (c .«right_bank») (c .adlib) (c .«opl_voice»)
-    (c .«voice_global_vol»)
+    (c .vibrato) (c .tremolo) (c .«last_note») (c .«pending_delay») (c .glissando) (c .«retrig_counter») (c .tremor) x (c .«effect_memory»)
+    (c .frozen) (c .fixed) (c .«opl_voice») (c .«voice_global_vol»)
 
 abbrev pub «ch_voice_global_vol» : Channel → ℕ → Channel
 «ch_voice_global_vol» c x =
     channel (c .instrument) (c .frequency) (c .«sample_pos») (c .volume) (c .pan) (c .active) (c .«target_frequency») (c .command) (c .info)
-    (c .«vibrato_pos») (c .«tremolo_pos») (c .«last_note») (c .«pending_delay») (c .glissando) (c .«vibrato_waveform»)
-    (c .«tremolo_waveform») (c .«retrig_counter») (c .«tremor_on_counter») (c .«tremor_off_counter») (c .«stored_volume»)
-    (c .«keep_vibrato_pos_on_new_note») (c .«keep_tremolo_pos_on_new_note») (c .«effect_memory») (c .muted) (c .frozen) (c .«right_bank»)
-    (c .adlib) (c .«opl_voice») x
+    (c .vibrato) (c .tremolo) (c .«last_note») (c .«pending_delay») (c .glissando) (c .«retrig_counter») (c .tremor) (c .«stored_volume»)
+    (c .«effect_memory») (c .frozen) (c .fixed) (c .«opl_voice») x
 
 abbrev pub «ch_opl_voice» : Channel → ℕ → Channel
 «ch_opl_voice» c x =
     channel (c .instrument) (c .frequency) (c .«sample_pos») (c .volume) (c .pan) (c .active) (c .«target_frequency») (c .command) (c .info)
-    (c .«vibrato_pos») (c .«tremolo_pos») (c .«last_note») (c .«pending_delay») (c .glissando) (c .«vibrato_waveform»)
-    (c .«tremolo_waveform») (c .«retrig_counter») (c .«tremor_on_counter») (c .«tremor_off_counter») (c .«stored_volume»)
-    (c .«keep_vibrato_pos_on_new_note») (c .«keep_tremolo_pos_on_new_note») (c .«effect_memory») (c .muted) (c .frozen) (c .«right_bank»)
-    (c .adlib) x (c .«voice_global_vol»)
+    (c .vibrato) (c .tremolo) (c .«last_note») (c .«pending_delay») (c .glissando) (c .«retrig_counter») (c .tremor) (c .«stored_volume»)
+    (c .«effect_memory») (c .frozen) (c .fixed) x (c .«voice_global_vol»)
 
 abbrev pub «ch_active» : Channel → Bool → Channel
 «ch_active» c x =
-    channel (c .instrument) (c .frequency) (c .«sample_pos») (c .volume) (c .pan) x (c .«target_frequency») (c .command) (c .info)
-    (c .«vibrato_pos») (c .«tremolo_pos») (c .«last_note») (c .«pending_delay») (c .glissando) (c .«vibrato_waveform»)
-    (c .«tremolo_waveform») (c .«retrig_counter») (c .«tremor_on_counter») (c .«tremor_off_counter») (c .«stored_volume»)
-    (c .«keep_vibrato_pos_on_new_note») (c .«keep_tremolo_pos_on_new_note») (c .«effect_memory») (c .muted) (c .frozen) (c .«right_bank»)
-    (c .adlib) (c .«opl_voice») (c .«voice_global_vol»)
+    channel (c .instrument) (c .frequency) (c .«sample_pos») (c .volume) (c .pan) x (c .«target_frequency») (c .command) (c .info) (c .vibrato)
+    (c .tremolo) (c .«last_note») (c .«pending_delay») (c .glissando) (c .«retrig_counter») (c .tremor) (c .«stored_volume») (c .«effect_memory»)
+    (c .frozen) (c .fixed) (c .«opl_voice») (c .«voice_global_vol»)
 
 abbrev pub «ch_frequency» : Channel → Float → Channel
 «ch_frequency» c x =
-    channel (c .instrument) x (c .«sample_pos») (c .volume) (c .pan) (c .active) (c .«target_frequency») (c .command) (c .info)
-    (c .«vibrato_pos») (c .«tremolo_pos») (c .«last_note») (c .«pending_delay») (c .glissando) (c .«vibrato_waveform»)
-    (c .«tremolo_waveform») (c .«retrig_counter») (c .«tremor_on_counter») (c .«tremor_off_counter») (c .«stored_volume»)
-    (c .«keep_vibrato_pos_on_new_note») (c .«keep_tremolo_pos_on_new_note») (c .«effect_memory») (c .muted) (c .frozen) (c .«right_bank»)
-    (c .adlib) (c .«opl_voice») (c .«voice_global_vol»)
+    channel (c .instrument) x (c .«sample_pos») (c .volume) (c .pan) (c .active) (c .«target_frequency») (c .command) (c .info) (c .vibrato)
+    (c .tremolo) (c .«last_note») (c .«pending_delay») (c .glissando) (c .«retrig_counter») (c .tremor) (c .«stored_volume») (c .«effect_memory»)
+    (c .frozen) (c .fixed) (c .«opl_voice») (c .«voice_global_vol»)
 
 abbrev pub «ch_target_frequency» : Channel → Float → Channel
 «ch_target_frequency» c x =
-    channel (c .instrument) (c .frequency) (c .«sample_pos») (c .volume) (c .pan) (c .active) x (c .command) (c .info) (c .«vibrato_pos»)
-    (c .«tremolo_pos») (c .«last_note») (c .«pending_delay») (c .glissando) (c .«vibrato_waveform») (c .«tremolo_waveform»)
-    (c .«retrig_counter») (c .«tremor_on_counter») (c .«tremor_off_counter») (c .«stored_volume») (c .«keep_vibrato_pos_on_new_note»)
-    (c .«keep_tremolo_pos_on_new_note») (c .«effect_memory») (c .muted) (c .frozen) (c .«right_bank») (c .adlib) (c .«opl_voice»)
-    (c .«voice_global_vol»)
+    channel (c .instrument) (c .frequency) (c .«sample_pos») (c .volume) (c .pan) (c .active) x (c .command) (c .info) (c .vibrato) (c .tremolo)
+    (c .«last_note») (c .«pending_delay») (c .glissando) (c .«retrig_counter») (c .tremor) (c .«stored_volume») (c .«effect_memory») (c .frozen)
+    (c .fixed) (c .«opl_voice») (c .«voice_global_vol»)
 
 abbrev pub «ch_sample_pos» : Channel → Float → Channel
 «ch_sample_pos» c x =
-    channel (c .instrument) (c .frequency) x (c .volume) (c .pan) (c .active) (c .«target_frequency») (c .command) (c .info)
-    (c .«vibrato_pos») (c .«tremolo_pos») (c .«last_note») (c .«pending_delay») (c .glissando) (c .«vibrato_waveform»)
-    (c .«tremolo_waveform») (c .«retrig_counter») (c .«tremor_on_counter») (c .«tremor_off_counter») (c .«stored_volume»)
-    (c .«keep_vibrato_pos_on_new_note») (c .«keep_tremolo_pos_on_new_note») (c .«effect_memory») (c .muted) (c .frozen) (c .«right_bank»)
-    (c .adlib) (c .«opl_voice») (c .«voice_global_vol»)
+    channel (c .instrument) (c .frequency) x (c .volume) (c .pan) (c .active) (c .«target_frequency») (c .command) (c .info) (c .vibrato) (c .tremolo)
+    (c .«last_note») (c .«pending_delay») (c .glissando) (c .«retrig_counter») (c .tremor) (c .«stored_volume») (c .«effect_memory») (c .frozen)
+    (c .fixed) (c .«opl_voice») (c .«voice_global_vol»)
 
 abbrev pub «ch_vibrato_pos» : Channel → ℕ → Channel
 «ch_vibrato_pos» c x =
     channel (c .instrument) (c .frequency) (c .«sample_pos») (c .volume) (c .pan) (c .active) (c .«target_frequency») (c .command) (c .info)
-    x (c .«tremolo_pos») (c .«last_note») (c .«pending_delay») (c .glissando) (c .«vibrato_waveform») (c .«tremolo_waveform»)
-    (c .«retrig_counter») (c .«tremor_on_counter») (c .«tremor_off_counter») (c .«stored_volume») (c .«keep_vibrato_pos_on_new_note»)
-    (c .«keep_tremolo_pos_on_new_note») (c .«effect_memory») (c .muted) (c .frozen) (c .«right_bank») (c .adlib) (c .«opl_voice»)
-    (c .«voice_global_vol»)
+    (oscillator x (c .vibrato .waveform) (c .vibrato .«keep_pos_on_new_note»)) (c .tremolo) (c .«last_note») (c .«pending_delay») (c .glissando)
+    (c .«retrig_counter») (c .tremor) (c .«stored_volume») (c .«effect_memory») (c .frozen) (c .fixed) (c .«opl_voice») (c .«voice_global_vol»)
 
 abbrev pub «ch_tremolo_pos» : Channel → ℕ → Channel
 «ch_tremolo_pos» c x =
     channel (c .instrument) (c .frequency) (c .«sample_pos») (c .volume) (c .pan) (c .active) (c .«target_frequency») (c .command) (c .info)
-    (c .«vibrato_pos») x (c .«last_note») (c .«pending_delay») (c .glissando) (c .«vibrato_waveform») (c .«tremolo_waveform»)
-    (c .«retrig_counter») (c .«tremor_on_counter») (c .«tremor_off_counter») (c .«stored_volume») (c .«keep_vibrato_pos_on_new_note»)
-    (c .«keep_tremolo_pos_on_new_note») (c .«effect_memory») (c .muted) (c .frozen) (c .«right_bank») (c .adlib) (c .«opl_voice»)
-    (c .«voice_global_vol»)
+    (c .vibrato) (oscillator x (c .tremolo .waveform) (c .tremolo .«keep_pos_on_new_note»)) (c .«last_note») (c .«pending_delay») (c .glissando)
+    (c .«retrig_counter») (c .tremor) (c .«stored_volume») (c .«effect_memory») (c .frozen) (c .fixed) (c .«opl_voice») (c .«voice_global_vol»)
 
 abbrev pub «ch_last_note» : Channel → ℕ → Channel
 «ch_last_note» c x =
     channel (c .instrument) (c .frequency) (c .«sample_pos») (c .volume) (c .pan) (c .active) (c .«target_frequency») (c .command) (c .info)
-    (c .«vibrato_pos») (c .«tremolo_pos») x (c .«pending_delay») (c .glissando) (c .«vibrato_waveform») (c .«tremolo_waveform»)
-    (c .«retrig_counter») (c .«tremor_on_counter») (c .«tremor_off_counter») (c .«stored_volume») (c .«keep_vibrato_pos_on_new_note»)
-    (c .«keep_tremolo_pos_on_new_note») (c .«effect_memory») (c .muted) (c .frozen) (c .«right_bank») (c .adlib) (c .«opl_voice»)
-    (c .«voice_global_vol»)
+    (c .vibrato) (c .tremolo) x (c .«pending_delay») (c .glissando) (c .«retrig_counter») (c .tremor) (c .«stored_volume») (c .«effect_memory»)
+    (c .frozen) (c .fixed) (c .«opl_voice») (c .«voice_global_vol»)
 
 abbrev pub «ch_glissando» : Channel → Bool → Channel
 «ch_glissando» c x =
     channel (c .instrument) (c .frequency) (c .«sample_pos») (c .volume) (c .pan) (c .active) (c .«target_frequency») (c .command) (c .info)
-    (c .«vibrato_pos») (c .«tremolo_pos») (c .«last_note») (c .«pending_delay») x (c .«vibrato_waveform») (c .«tremolo_waveform»)
-    (c .«retrig_counter») (c .«tremor_on_counter») (c .«tremor_off_counter») (c .«stored_volume») (c .«keep_vibrato_pos_on_new_note»)
-    (c .«keep_tremolo_pos_on_new_note») (c .«effect_memory») (c .muted) (c .frozen) (c .«right_bank») (c .adlib) (c .«opl_voice»)
-    (c .«voice_global_vol»)
+    (c .vibrato) (c .tremolo) (c .«last_note») (c .«pending_delay») x (c .«retrig_counter») (c .tremor) (c .«stored_volume») (c .«effect_memory»)
+    (c .frozen) (c .fixed) (c .«opl_voice») (c .«voice_global_vol»)
 
 abbrev pub «ch_vibrato_waveform» : Channel → Waveform → Channel
 «ch_vibrato_waveform» c x =
     channel (c .instrument) (c .frequency) (c .«sample_pos») (c .volume) (c .pan) (c .active) (c .«target_frequency») (c .command) (c .info)
-    (c .«vibrato_pos») (c .«tremolo_pos») (c .«last_note») (c .«pending_delay») (c .glissando) x (c .«tremolo_waveform»)
-    (c .«retrig_counter») (c .«tremor_on_counter») (c .«tremor_off_counter») (c .«stored_volume») (c .«keep_vibrato_pos_on_new_note»)
-    (c .«keep_tremolo_pos_on_new_note») (c .«effect_memory») (c .muted) (c .frozen) (c .«right_bank») (c .adlib) (c .«opl_voice»)
-    (c .«voice_global_vol»)
+    (oscillator (c .vibrato .pos) x (c .vibrato .«keep_pos_on_new_note»)) (c .tremolo) (c .«last_note») (c .«pending_delay») (c .glissando)
+    (c .«retrig_counter») (c .tremor) (c .«stored_volume») (c .«effect_memory») (c .frozen) (c .fixed) (c .«opl_voice») (c .«voice_global_vol»)
 
 abbrev pub «ch_keep_vibrato_pos_on_new_note» : Channel → Bool → Channel
 «ch_keep_vibrato_pos_on_new_note» c x =
     channel (c .instrument) (c .frequency) (c .«sample_pos») (c .volume) (c .pan) (c .active) (c .«target_frequency») (c .command) (c .info)
-    (c .«vibrato_pos») (c .«tremolo_pos») (c .«last_note») (c .«pending_delay») (c .glissando) (c .«vibrato_waveform»)
-    (c .«tremolo_waveform») (c .«retrig_counter») (c .«tremor_on_counter») (c .«tremor_off_counter») (c .«stored_volume») x
-    (c .«keep_tremolo_pos_on_new_note») (c .«effect_memory») (c .muted) (c .frozen) (c .«right_bank») (c .adlib) (c .«opl_voice»)
-    (c .«voice_global_vol»)
+    (oscillator (c .vibrato .pos) (c .vibrato .waveform) x) (c .tremolo) (c .«last_note») (c .«pending_delay») (c .glissando) (c .«retrig_counter»)
+    (c .tremor) (c .«stored_volume») (c .«effect_memory») (c .frozen) (c .fixed) (c .«opl_voice») (c .«voice_global_vol»)
 
 abbrev pub «ch_tremolo_waveform» : Channel → Waveform → Channel
 «ch_tremolo_waveform» c x =
     channel (c .instrument) (c .frequency) (c .«sample_pos») (c .volume) (c .pan) (c .active) (c .«target_frequency») (c .command) (c .info)
-    (c .«vibrato_pos») (c .«tremolo_pos») (c .«last_note») (c .«pending_delay») (c .glissando) (c .«vibrato_waveform») x
-    (c .«retrig_counter») (c .«tremor_on_counter») (c .«tremor_off_counter») (c .«stored_volume») (c .«keep_vibrato_pos_on_new_note»)
-    (c .«keep_tremolo_pos_on_new_note») (c .«effect_memory») (c .muted) (c .frozen) (c .«right_bank») (c .adlib) (c .«opl_voice»)
-    (c .«voice_global_vol»)
+    (c .vibrato) (oscillator (c .tremolo .pos) x (c .tremolo .«keep_pos_on_new_note»)) (c .«last_note») (c .«pending_delay») (c .glissando)
+    (c .«retrig_counter») (c .tremor) (c .«stored_volume») (c .«effect_memory») (c .frozen) (c .fixed) (c .«opl_voice») (c .«voice_global_vol»)
 
 abbrev pub «ch_keep_tremolo_pos_on_new_note» : Channel → Bool → Channel
 «ch_keep_tremolo_pos_on_new_note» c x =
     channel (c .instrument) (c .frequency) (c .«sample_pos») (c .volume) (c .pan) (c .active) (c .«target_frequency») (c .command) (c .info)
-    (c .«vibrato_pos») (c .«tremolo_pos») (c .«last_note») (c .«pending_delay») (c .glissando) (c .«vibrato_waveform»)
-    (c .«tremolo_waveform») (c .«retrig_counter») (c .«tremor_on_counter») (c .«tremor_off_counter») (c .«stored_volume»)
-    (c .«keep_vibrato_pos_on_new_note») x (c .«effect_memory») (c .muted) (c .frozen) (c .«right_bank») (c .adlib) (c .«opl_voice»)
-    (c .«voice_global_vol»)
+    (c .vibrato) (oscillator (c .tremolo .pos) (c .tremolo .waveform) x) (c .«last_note») (c .«pending_delay») (c .glissando) (c .«retrig_counter»)
+    (c .tremor) (c .«stored_volume») (c .«effect_memory») (c .frozen) (c .fixed) (c .«opl_voice») (c .«voice_global_vol»)
 
 abbrev pub «ch_pan» : Channel → ℕ → Channel
 «ch_pan» c x =
-    channel (c .instrument) (c .frequency) (c .«sample_pos») (c .volume) x (c .active) (c .«target_frequency») (c .command) (c .info)
-    (c .«vibrato_pos») (c .«tremolo_pos») (c .«last_note») (c .«pending_delay») (c .glissando) (c .«vibrato_waveform»)
-    (c .«tremolo_waveform») (c .«retrig_counter») (c .«tremor_on_counter») (c .«tremor_off_counter») (c .«stored_volume»)
-    (c .«keep_vibrato_pos_on_new_note») (c .«keep_tremolo_pos_on_new_note») (c .«effect_memory») (c .muted) (c .frozen) (c .«right_bank»)
-    (c .adlib) (c .«opl_voice») (c .«voice_global_vol»)
+    channel (c .instrument) (c .frequency) (c .«sample_pos») (c .volume) x (c .active) (c .«target_frequency») (c .command) (c .info) (c .vibrato)
+    (c .tremolo) (c .«last_note») (c .«pending_delay») (c .glissando) (c .«retrig_counter») (c .tremor) (c .«stored_volume») (c .«effect_memory»)
+    (c .frozen) (c .fixed) (c .«opl_voice») (c .«voice_global_vol»)
 
-abbrev pub «ch_muted» : Channel → Bool → Channel
-«ch_muted» c x =
+abbrev pub «ch_fixed» : Channel → Fixed → Channel
+«ch_fixed» c x =
     channel (c .instrument) (c .frequency) (c .«sample_pos») (c .volume) (c .pan) (c .active) (c .«target_frequency») (c .command) (c .info)
-    (c .«vibrato_pos») (c .«tremolo_pos») (c .«last_note») (c .«pending_delay») (c .glissando) (c .«vibrato_waveform»)
-    (c .«tremolo_waveform») (c .«retrig_counter») (c .«tremor_on_counter») (c .«tremor_off_counter») (c .«stored_volume»)
-    (c .«keep_vibrato_pos_on_new_note») (c .«keep_tremolo_pos_on_new_note») (c .«effect_memory») x (c .frozen) (c .«right_bank») (c .adlib)
-    (c .«opl_voice») (c .«voice_global_vol»)
-
-abbrev pub «ch_right_bank» : Channel → Bool → Channel
-«ch_right_bank» c x =
-    channel (c .instrument) (c .frequency) (c .«sample_pos») (c .volume) (c .pan) (c .active) (c .«target_frequency») (c .command) (c .info)
-    (c .«vibrato_pos») (c .«tremolo_pos») (c .«last_note») (c .«pending_delay») (c .glissando) (c .«vibrato_waveform»)
-    (c .«tremolo_waveform») (c .«retrig_counter») (c .«tremor_on_counter») (c .«tremor_off_counter») (c .«stored_volume»)
-    (c .«keep_vibrato_pos_on_new_note») (c .«keep_tremolo_pos_on_new_note») (c .«effect_memory») (c .muted) (c .frozen) x (c .adlib)
-    (c .«opl_voice») (c .«voice_global_vol»)
-
-abbrev pub «ch_adlib» : Channel → Bool → Channel
-«ch_adlib» c x =
-    channel (c .instrument) (c .frequency) (c .«sample_pos») (c .volume) (c .pan) (c .active) (c .«target_frequency») (c .command) (c .info)
-    (c .«vibrato_pos») (c .«tremolo_pos») (c .«last_note») (c .«pending_delay») (c .glissando) (c .«vibrato_waveform»)
-    (c .«tremolo_waveform») (c .«retrig_counter») (c .«tremor_on_counter») (c .«tremor_off_counter») (c .«stored_volume»)
-    (c .«keep_vibrato_pos_on_new_note») (c .«keep_tremolo_pos_on_new_note») (c .«effect_memory») (c .muted) (c .frozen) (c .«right_bank») x
-    (c .«opl_voice») (c .«voice_global_vol»)
+    (c .vibrato) (c .tremolo) (c .«last_note») (c .«pending_delay») (c .glissando) (c .«retrig_counter») (c .tremor) (c .«stored_volume»)
+    (c .«effect_memory») (c .frozen) x (c .«opl_voice») (c .«voice_global_vol»)
 
 -- the locals by their names in their order
 abbrev locals : ByteOption → ByteOption → ByteOption → ByteOption → ByteOption → ByteOption → ByteOption → Locals

@@ -6,4 +6,5 @@ pub mod Helpers
 pub mod Player
 pub mod Map
 pub mod Turns
+pub mod Untransposed
 pub mod Call

@@ -1,6 +1,7 @@
 -- The Rust's `Channel::default` and what `PlayerState::new` makes of it, with 01's opening values for the header's. Assumes nothing.
 use mathlib.Core.Bool.{false}
 use mathlib.Core.List.{map}
+use lib.IntN.{pos}
 use lib.ListN.{replicate}
 use Rattle.tune.specs.declared.cells.Cell.{Cell}
 use Rattle.tune.specs.declared.opening.ChannelOpening.{ChannelOpening}
@@ -12,7 +13,7 @@ use Rattle.channel.specs.declared.state.TriggerOption.the-variants.{None as NoT
 use Rattle.channel.specs.declared.state.Waveform.the-variants.{Sine}
 use Rattle.original.specs.Constants.{zeroFloat}
 use Rattle.original.specs.State.{PlayerState}
-use Rattle.original.specs.Fields.{«ch_pan», «ch_muted», «ch_adlib», «ch_right_bank»}
+use Rattle.original.specs.Fields.{«ch_pan», «ch_fixed»}
 
 -- Cell::EMPTY
 abbrev pub «Cell::EMPTY» : Cell
@@ -31,31 +32,25 @@ abbrev pub «Channel::default» : Channel
       «target_frequency» = zeroFloat;
       command = 0;
       info = 0;
-      «vibrato_pos» = 0;
-      «tremolo_pos» = 0;
+      vibrato = record { pos = 0; waveform = Sine; «keep_pos_on_new_note» = false };
+      tremolo = record { pos = 0; waveform = Sine; «keep_pos_on_new_note» = false };
       «last_note» = 0;
       «pending_delay» = NoTrigger;
       glissando = false;
-      «vibrato_waveform» = Sine;
-      «tremolo_waveform» = Sine;
       «retrig_counter» = 0;
-      «tremor_on_counter» = 0;
-      «tremor_off_counter» = 0;
+      tremor = record { «on_counter» = 0; «off_counter» = 0 };
       «stored_volume» = 0;
-      «keep_vibrato_pos_on_new_note» = false;
-      «keep_tremolo_pos_on_new_note» = false;
       «effect_memory» = replicate 27 0;
-      muted = false;
       frozen = false;
-      «right_bank» = false;
-      adlib = false;
+      fixed = record { muted = false; «right_bank» = false; adlib = false; transposition = pos 0 };
       «opl_voice» = 0;
       «voice_global_vol» = 64;
     }
 
--- Channel { pan: .., muted: .., adlib: .., right_bank: .., ..Channel::default() }
+-- Channel { pan: .., muted: .., adlib: .., right_bank: .., ..Channel::default() }; of `fixed` the Rust has muted, right_bank and adlib as
+-- fields of the channel, and knows no transposition
 unfoldable pub newChannel : ChannelOpening → Channel
-newChannel o = «ch_right_bank» («ch_adlib» («ch_muted» («ch_pan» «Channel::default» (o .pan)) (o .muted)) (o .adlib)) (o .«right_bank»)
+newChannel o = «ch_fixed» («ch_pan» «Channel::default» (o .pan)) (o .fixed)
 
 -- PlayerState { .. }, the fields that `enter_row` and `next_row` write; no row is entered, so no note has started
 unfoldable pub «PlayerState::new» : Opening → PlayerState

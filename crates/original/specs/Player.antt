@@ -70,7 +70,7 @@ sampleGet m i = pick (ltb i (length (m .samples))) (ASample (getD (m .samples) i
 
 -- let v = if ch.adlib { s.volume.min(ADLIB_VOLUME_PEAK) } else { clamp_pcm_volume(s.volume as u16) };
 unfoldable pub loadVolume : Channel → Sample → ℕ
-loadVolume ch s = pick (ch .adlib) (min (s .volume) «ADLIB_VOLUME_PEAK») («clamp_pcm_volume» (s .volume))
+loadVolume ch s = pick (ch .fixed .adlib) (min (s .volume) «ADLIB_VOLUME_PEAK») («clamp_pcm_volume» (s .volume))
 
 -- ch.volume = v; ch.stored_volume = v; ch.voice_global_vol = self.global_volume;
 abbrev pub storeVolume : Channel → ℕ → ℕ → Channel
@@ -95,7 +95,7 @@ unstarted ch = record { channel = ch; struck = false }
 -- if ch.adlib && ch.opl_voice.is_some() { voice.key_off(); } else { ch.active = false; ch.frequency = 0.0; }
 unfoldable pub noteCut : Channel → Channel
 noteCut ch =
-    pick (ch .adlib && not (eqb (ch .«opl_voice») 0)) («ch_opl_voice» ch 2) («ch_frequency» («ch_active» ch false) zeroFloat)
+    pick (ch .fixed .adlib && not (eqb (ch .«opl_voice») 0)) («ch_opl_voice» ch 2) («ch_frequency» («ch_active» ch false) zeroFloat)
 
 -- let porta = ch.command == cmd::G_TONE_PORTA || ch.command == cmd::L_PORT_VOL;
 unfoldable pub porta : Channel → Bool
@@ -118,15 +118,15 @@ wake ch = «ch_frozen» («ch_active» ch true) false
 
 -- if !ch.keep_vibrato_pos_on_new_note { ch.vibrato_pos = 0; }
 unfoldable pub resetVibrato : Channel → Channel
-resetVibrato ch = pick (not (ch .«keep_vibrato_pos_on_new_note»)) («ch_vibrato_pos» ch 0) ch
+resetVibrato ch = pick (not (ch .vibrato .«keep_pos_on_new_note»)) («ch_vibrato_pos» ch 0) ch
 
 -- if !ch.keep_tremolo_pos_on_new_note { ch.tremolo_pos = 0; }
 unfoldable pub resetTremolo : Channel → Channel
-resetTremolo ch = pick (not (ch .«keep_tremolo_pos_on_new_note»)) («ch_tremolo_pos» ch 0) ch
+resetTremolo ch = pick (not (ch .tremolo .«keep_pos_on_new_note»)) («ch_tremolo_pos» ch 0) ch
 
 -- if ch.adlib { ch.opl_voice = self.samples[inst_idx - 1].adlib.map(..); }, as a mark: samples of types 2 to 7 are AdLib
 unfoldable pub keyOn : Sample → Channel → Channel
-keyOn s ch = pick (ch .adlib) («ch_opl_voice» ch (pick (leb 2 (s .kind) && leb (s .kind) 7) 1 0)) ch
+keyOn s ch = pick (ch .fixed .adlib) («ch_opl_voice» ch (pick (leb 2 (s .kind) && leb (s .kind) 7) 1 0)) ch
 
 -- ch.frequency = freq; ch.target_frequency = freq; Self::clamp_amiga(..); the cursor; wake; the resets; ch.last_note = cell.note; the voice
 unfoldable pub trigger : Bool → ℕ → Float → Sample → Channel → Channel
@@ -237,8 +237,8 @@ setTremolo p ch = «ch_keep_tremolo_pos_on_new_note» («ch_tremolo_waveform» c
 -- SAx: match p { 0x0 | 0x2 => .., 0x1 | 0x3 => .., 0x4..=0x7 => .., _ => {} }
 unfoldable pub oldStereo : ℕ → Channel → Channel
 oldStereo p ch =
-    pick (eqb p 0 || eqb p 2) («ch_pan» ch (pick (ch .«right_bank») 0x0F 0x00))
-    (pick (eqb p 1 || eqb p 3) («ch_pan» ch (pick (ch .«right_bank») 0x00 0x0F))
+    pick (eqb p 0 || eqb p 2) («ch_pan» ch (pick (ch .fixed .«right_bank») 0x0F 0x00))
+    (pick (eqb p 1 || eqb p 3) («ch_pan» ch (pick (ch .fixed .«right_bank») 0x00 0x0F))
     (pick (leb 4 p && leb p 7) («ch_pan» ch 0x07)
     ch))
 

@@ -1,5 +1,6 @@
 -- The Rust's `PlayerState`: the fields that `enter_row` and `next_row` write, those that they only read, and the locals of `enter_row`.
--- `Option<u8>` is `ByteOption`; `Option<Jump>` is `Jump`, with `Stay` for `None`. Assumes nothing.
+-- `Option<u8>` is `ByteOption`; `Option<Jump>` is `Jump`, with `Stay` for `None`; `Channel` has the Rust's fields, some of them
+-- in groups, and a transposition that the Rust does not know. Assumes nothing.
 use Prim.Native.Nat.{ℕ}
 use mathlib.Core.Bool.{Bool}
 use mathlib.Core.List.{List}

@@ -2,7 +2,7 @@
 use mathlib.Core.Path.{_≡_, refl, sym, subst}
 use mathlib.Core.Logic.{inl, inr}
 use mathlib.Core.Bool.{Bool, true, _&&_}
-use Prim.Native.Nat.{ℕ, zero, suc, _+_, _*_, _/_, _%_, _≤_, _<_, max}
+use Prim.Native.Nat.{ℕ, zero, suc, _*_, _≤_, _<_, max}
 use native.Mathlib.Nat.{eq-or-lt-of-le, le-of-suc-le-suc, not-suc-le-zero, lt-trans, div-le-self, lt-of-le-of-lt}
 use native.Mathlib.Omega.{arith}
 use borrow.Author.Tests.{ltb-true}
@@ -11,7 +11,7 @@ use lib.Ieee.Bits.{is-true}
 use Rattle.laws.specs.Entries.{every}
 use Rattle.laws.proofs.Picks.{and-true}
 use Rattle.laws.proofs.Tables.{at}
-use Rattle.pitch.specs.Periods.{periods, periodOf, noteNumber}
+use Rattle.pitch.specs.Periods.{periods, periodOf}
 use Rattle.pitch.specs.Frequency.{periodAt}
 
 -- the test at one entry: it is above the next one and at most 27392; behind the last stands 0
@@ -69,16 +69,6 @@ period-most k h = le-of-suc-le-suc (at-entry k h .1)
 pub period-88 : periodOf 88 ≡ 170
 unfolding periodOf
 period-88 = refl
-
--- a note's number is one of the table
-pub number-below : (note : ℕ) → noteNumber note < 108
-unfolding noteNumber
-number-below note = omega arith
-
--- below octave 7 no number is cut
-pub number-uncut : (note : ℕ) → note / 16 * 12 + note % 16 < 84 → noteNumber note ≡ note / 16 * 12 + note % 16
-unfolding noteNumber
-number-uncut note h = omega arith
 
 -- a period at a c5 speed is below 2 to the power 28
 pub period-small : (n c5 : ℕ) → n < 108 → periodAt n c5 < 268435456

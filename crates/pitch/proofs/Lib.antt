@@ -1,4 +1,5 @@
 pub mod Falling
+pub mod Transposed
 pub mod Shifted
 pub mod Same
 pub mod Rounded

@@ -5,7 +5,7 @@ use mathlib.Core.Bool.{Bool, false, not}
 use Prim.Native.Nat.{ℕ, _*_, _<_, _≤_, _^_}
 use native.Mathlib.Nat.{eq-zero-or-pos}
 use native.Mathlib.Omega.{arith}
-use lib.IntN.{pos}
+use lib.IntN.{ℤ, pos}
 use lib.Dec.{T}
 use lib.Ieee.{Float, nan, inf, fin, binary32, binary64, up, down, div, ofInt, ofBits, lt, isNan}
 use Rattle.laws.proofs.Picks.{choice}
@@ -15,7 +15,8 @@ use Rattle.pitch.specs.Slides.{factorOf, factorNumber, slid}
 use Rattle.pitch.specs.Limits.{lowest, highest, limited}
 use Rattle.pitch.proofs.NoNan.{round-no-nan, mul-no-nan}
 use Rattle.pitch.proofs.Division.{clock, quotient-is, at-zero, above-zero}
-use Rattle.pitch.proofs.Falling.{number-below, period-small}
+use Rattle.pitch.proofs.Falling.{period-small}
+use Rattle.pitch.proofs.Transposed.{number-below}
 use Rattle.pitch.proofs.Factors.{factor-positive, factor-below}
 
 abbrev Number : Float → Type 0
@@ -43,9 +44,9 @@ of-period-number p h = elim (eq-zero-or-pos p) [
     fit p h = omega arith
 
 -- a note's frequency is a number
-pub frequency-number : (note c5 : ℕ) → T (not (isNan (noteFrequency note c5)))
+pub frequency-number : (note : ℕ) (t : ℤ) (c5 : ℕ) → T (not (isNan (noteFrequency note t c5)))
 unfolding noteFrequency
-frequency-number note c5 = of-period-number (periodAt (noteNumber note) c5) (period-small (noteNumber note) c5 (number-below note))
+frequency-number note t c5 = of-period-number (periodAt (noteNumber note t) c5) (period-small (noteNumber note t) c5 (number-below note t))
 
 -- a number slid is a number
 pub slid-number : (x : Float) (up : Bool) (info : ℕ) → T (not (isNan x)) → T (not (isNan (slid x (factorNumber up info))))

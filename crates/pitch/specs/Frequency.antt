@@ -2,7 +2,7 @@
 use Prim.Native.Nat.{ℕ, _*_, _/_, max}
 use mathlib.Core.Bool.{false}
 use lib.Dec.{eqb}
-use lib.IntN.{pos, negsuc}
+use lib.IntN.{ℤ, pos, negsuc}
 use lib.Ieee.{Float, nan, inf, fin, binary32, binary64, up, down, round, div, ofInt}
 use Rattle.laws.specs.Choice.{pick}
 use Rattle.pitch.specs.Periods.{periodOf, noteNumber}
@@ -29,6 +29,6 @@ unfoldable pub frequencyOf : ℕ → Float
 frequencyOf period =
     pick (eqb period 0) (fin false 0 (pos 0)) (narrowed (div binary64 (ofInt binary64 (pos 14317456)) (ofInt binary64 (pos period))))
 
--- the frequency of a note byte at a c5 speed
-unfoldable pub noteFrequency : ℕ → ℕ → Float
-noteFrequency note c5 = frequencyOf (periodAt (noteNumber note) c5)
+-- the frequency of a note byte with a transposition, at a c5 speed
+unfoldable pub noteFrequency : ℕ → ℤ → ℕ → Float
+noteFrequency note transposition c5 = frequencyOf (periodAt (noteNumber note transposition) c5)

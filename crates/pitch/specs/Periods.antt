@@ -1,6 +1,7 @@
 -- Periods (01, 'Section, second part', Pitch). Assumes nothing.
 use Prim.Native.Nat.{ℕ, _+_, _*_, _/_, _%_, min}
 use mathlib.Core.List.{List, [], _∷_}
+use lib.IntN.{ℤ, pos, negsuc, _+ℤ_}
 use lib.ListN.{getD}
 
 -- the 108 periods, nine octaves of twelve
@@ -20,6 +21,11 @@ periods =
 unfoldable pub periodOf : ℕ → ℕ
 periodOf n = getD periods n 0
 
--- a note byte's number: n = octave × 12 + semitone, cut to 107
-unfoldable pub noteNumber : ℕ → ℕ
-noteNumber note = min (note / 16 * 12 + note % 16) 107
+-- a signed number, cut to 0
+abbrev pub fromZero : ℤ → ℕ
+fromZero (pos n) = n
+fromZero (negsuc n) = 0
+
+-- a note byte's number: octave × 12 + semitone and the channel's transposition, uncut, then cut to 0 through 107 (02, 2026-06)
+unfoldable pub noteNumber : ℕ → ℤ → ℕ
+noteNumber note transposition = min (fromZero (pos (note / 16 * 12 + note % 16) +ℤ transposition)) 107

@@ -25,12 +25,12 @@ fn at_least_one(c5: u32) -> u32
     if c5 == 0 { 1 } else { c5 }
 }
 
-// The period of a note byte at a c5 speed.
-fn period_at(note: u8, c5: u32, table: &[u32]) -> u32
+// The period of a note byte with a transposition, at a c5 speed.
+fn period_at(note: u8, transposition: i8, c5: u32, table: &[u32]) -> u32
     requires { ⌜ now table ≡ keptPeriods ⌝ }
-    ensures { λ r. ⌜ r ≡ periodAt (noteNumber note) c5 ⌝ }
+    ensures { λ r. ⌜ r ≡ periodAt (noteNumber note transposition) c5 ⌝ }
 {
-    8363 * note_period(note, table) / at_least_one(c5)
+    8363 * note_period(note, transposition, table) / at_least_one(c5)
 }
 
 fn frequency_of(period: u32) -> f32
@@ -43,10 +43,10 @@ fn frequency_of(period: u32) -> f32
     narrow(14317456.0 / (period as f64))
 }
 
-// The frequency of a note byte at a c5 speed.
-pub fn note_to_frequency(note: u8, c5: u32, table: &[u32]) -> f32
+// The frequency of a note byte with a transposition, at a c5 speed.
+pub fn note_to_frequency(note: u8, transposition: i8, c5: u32, table: &[u32]) -> f32
     requires { ⌜ now table ≡ keptPeriods ⌝ }
-    ensures { λ r. ⌜ r ≡ noteFrequency note c5 ⌝ }
+    ensures { λ r. ⌜ r ≡ noteFrequency note transposition c5 ⌝ }
 {
-    frequency_of(period_at(note, c5, table))
+    frequency_of(period_at(note, transposition, c5, table))
 }

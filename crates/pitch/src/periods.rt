@@ -1,9 +1,11 @@
 // The period of a note.
 ghost use mathlib.Core.Path.{_≡_};
 ghost use Prim.Native.Nat.{_+_, _*_, _/_, _%_, _<_};
+ghost use Rattle.tune.specs.Transposition.{raised128};
 ghost use Rattle.pitch.specs.Periods.{periodOf, noteNumber};
 ghost use Rattle.pitch.specs.Octaves.{keptPeriods};
 use tune::numbers::high_nibble;
+use tune::transposition::raised_by_128;
 
 // The 12 periods of octave 0, then the 24 of octaves 7 and 8.
 const PERIODS: [u32; 36] = [
@@ -71,22 +73,33 @@ fn uncut_number(note: u8) -> usize
     note as usize - high_nibble(note) as usize * 4
 }
 
-// A note byte's number.
-pub fn note_number(note: u8) -> usize
-    ensures { λ r. ⌜ r ≡ noteNumber note ⌝ ∗ ⌜ r < 108 ⌝ }
+// The transposition added, all raised by 128 so that nothing is below 0.
+fn raised_number(note: u8, transposition: i8) -> usize
+    ensures { λ r. ⌜ r ≡ note / 16 * 12 + note % 16 + raised128 transposition ⌝ }
 {
-    let n = uncut_number(note);
-    if n < 107 { n } else { 107 }
+    uncut_number(note) + raised_by_128(transposition) as usize
 }
 
-// A note byte's period. Only numbers from 84 up can be cut: below them the cut would cost each note three instructions.
-pub fn note_period(note: u8, table: &[u32]) -> u32
-    requires { ⌜ now table ≡ keptPeriods ⌝ }
-    ensures { λ r. ⌜ r ≡ periodOf (noteNumber note) ⌝ }
+// A note byte's number with a transposition.
+pub fn note_number(note: u8, transposition: i8) -> usize
+    ensures { λ r. ⌜ r ≡ noteNumber note transposition ⌝ ∗ ⌜ r < 108 ⌝ }
 {
-    let n = uncut_number(note);
-    if 84 <= n {
-        return period(note_number(note), table);
+    let n = raised_number(note, transposition);
+    if n < 128 {
+        return 0;
     }
-    period(n, table)
+    if n < 235 { n - 128 } else { 107 }
+}
+
+// A note byte's period with a transposition. Numbers 0 to 83 are not cut: there the cut would cost each note three
+// instructions.
+pub fn note_period(note: u8, transposition: i8, table: &[u32]) -> u32
+    requires { ⌜ now table ≡ keptPeriods ⌝ }
+    ensures { λ r. ⌜ r ≡ periodOf (noteNumber note transposition) ⌝ }
+{
+    let n = raised_number(note, transposition);
+    if (n < 128) | (212 <= n) {
+        return period(note_number(note, transposition), table);
+    }
+    period(n - 128, table)
 }

@@ -1,23 +1,25 @@
 -- What Measure accepts, Open accepts but for the rate. Assumes nothing.
-use Prim.Native.Nat.{ℕ, _+_, _*_, _%_, _≤_}
-use mathlib.Core.Path.{_≡_, refl}
-use mathlib.Core.Bool.{Bool, true, _&&_}
+use Prim.Native.Nat.{ℕ, _+_, _*_, _%_, _≤_, _<_}
+use mathlib.Core.Path.{_≡_, refl, ap, ap₂, subst}
+use mathlib.Core.Bool.{Bool, true, false, _&&_, _||_, not}
 use mathlib.Core.List.{List}
 use native.Mathlib.Omega.{arith}
-use borrow.Author.Tests.{eq-eqb, le-leb}
-use lib.Dec.{eqb, leb, ltb}
+use borrow.Author.Tests.{eq-eqb, le-leb, le-ltb}
+use lib.Dec.{eqb, ltb}
+use lib.IntN.{pos}
 use lib.ListN.{getD}
 use Rattle.laws.specs.Refusals.{refuse}
 use Rattle.laws.specs.Masks.{bitOf}
 use Rattle.laws.proofs.Picks.{choice}
-use Rattle.laws.proofs.Pieces.{length-pieces}
+use Rattle.laws.proofs.Pieces.{length-pieces, length-tabulate, tabulate-each}
 use Rattle.laws.proofs.Tables.{every-tabulated}
+use Rattle.tune.specs.Transposition.{beyond24}
 use Rattle.tune.specs.Sizes.{ordersFit, cellsFit, samplesFit, rule9}
-use Rattle.tune.specs.Opening.{rateBroken, pansKept, rule10}
+use Rattle.tune.specs.Opening.{rateBroken, channelBroken, channelsKept, rule10, UntransposedOpening}
 use Rattle.s3m.specs.Layout.{countsOf, instrumentsAt, patternsAt, pansAt, hasPans, pointerAt, bytesAt}
 use Rattle.s3m.specs.Instruments.{instrumentSample, samplesOf}
 use Rattle.s3m.specs.Patterns.{patternCells, cellsOf}
-use Rattle.s3m.specs.Opening.{panOf, channelOpening, channelAt, openingOf}
+use Rattle.s3m.specs.Opening.{panOf, fixedBy, channelOpening, channelAt, openingOf}
 use Rattle.s3m.specs.Refusals.{measureRule}
 use Rattle.s3m.specs.declared.header.Counts.{Counts}
 use Rattle.s3m.proofs.Accepted.{accepted}
@@ -49,15 +51,33 @@ filled-sized s e =
     (length-pieces (λ k. instrumentSample s (pointerAt s (instrumentsAt n) k)) 20 (λ k. length-instrument s (pointerAt s (instrumentsAt n) k)) (n .instruments))
     (a .orders-least) (a .orders-most) (a .patterns-most) (a .instruments-most))
 
-pan-kept : (setting : ℕ) (pans : Bool) (byte : ℕ) → leb (panOf setting pans byte) 15 ≡ true
+-- a file's channel has no transposition (02, 2026-06)
+pub no-transposition : (byte : ℕ) (pans : Bool) (pan : ℕ) → channelOpening byte pans pan .fixed .transposition ≡ pos 0
+unfolding channelOpening fixedBy
+no-transposition byte pans pan = refl
+
+-- the opening values that Read gives are those that the Rust is compared with
+pub read-untransposed : (s : List ℕ) (rate : ℕ) → UntransposedOpening (openingOf s rate)
+unfolding openingOf
+read-untransposed s rate k d b =
+    tabulate-each (λ c. c .fixed .transposition ≡ pos 0) 32 (channelAt s)
+    (λ j _. no-transposition (getD s (64 + j) 0) (hasPans s) (getD s (pansAt (countsOf s) + j) 0)) d k
+    (subst (λ (n : ℕ). k < n) (length-tabulate 32 (channelAt s)) b)
+
+pan-kept : (setting : ℕ) (pans : Bool) (byte : ℕ) → ltb 15 (panOf setting pans byte) ≡ false
 pan-kept setting pans byte =
-    choice (λ (x : ℕ). leb x 15 ≡ true) (pans && eqb (bitOf byte 5) 1) (λ _. le-leb (byte % 16) 15 (omega arith))
-    (λ _. choice (λ (x : ℕ). leb x 15 ≡ true) (ltb setting 8) (λ _. refl) (λ _. choice (λ (x : ℕ). leb x 15 ≡ true) (ltb setting 16) (λ _. refl) (λ _. refl)))
+    choice (λ (x : ℕ). ltb 15 x ≡ false) (pans && eqb (bitOf byte 5) 1) (λ _. le-ltb 15 (byte % 16) (omega arith))
+    (λ _. choice (λ (x : ℕ). ltb 15 x ≡ false) (ltb setting 8) (λ _. refl) (λ _. choice (λ (x : ℕ). ltb 15 x ≡ false) (ltb setting 16) (λ _. refl) (λ _. refl)))
+
+channel-kept : (byte : ℕ) (pans : Bool) (pan : ℕ) → not (channelBroken (channelOpening byte pans pan)) ≡ true
+unfolding channelOpening
+channel-kept byte pans pan =
+    ap₂ (λ a b. not (a || b)) (pan-kept (byte % 128) pans pan) (ap beyond24 (no-transposition byte pans pan))
 
 -- the opening values that Read gives keep rule 10 but for the rate
 pub opening-ranged : (s : List ℕ) (rate : ℕ) → measureRule s ≡ 0 → rule10 (openingOf s rate) ≡ refuse 10 (rateBroken rate)
-unfolding rule10 openingOf channelOpening
+unfolding rule10 openingOf
 opening-ranged s rate e =
-    let pans : pansKept (openingOf s rate .channels) ≡ true =
-    every-tabulated (λ c. leb (c .pan) 15) (channelAt s) (λ k. pan-kept (getD s (64 + k) 0 % 128) (hasPans s) (getD s (pansAt (countsOf s) + k) 0)) 32 0 in
-    rw (accepted s e .levels, pans)
+    let channels : channelsKept (openingOf s rate .channels) ≡ true =
+    every-tabulated (λ c. not (channelBroken c)) (channelAt s) (λ k. channel-kept (getD s (64 + k) 0) (hasPans s) (getD s (pansAt (countsOf s) + k) 0)) 32 0 in
+    rw (accepted s e .levels, channels)

@@ -3,11 +3,13 @@ use Prim.Native.Nat.{ℕ, _+_, _%_}
 use mathlib.Core.Bool.{Bool, _&&_, _||_}
 use mathlib.Core.List.{List}
 use lib.Dec.{eqb, leb, ltb}
+use lib.IntN.{pos}
 use lib.ListN.{getD}
 use Rattle.laws.specs.Choice.{pick}
 use Rattle.laws.specs.Entries.{tabulate}
 use Rattle.laws.specs.Masks.{bitOf}
 use Rattle.tune.specs.Numbers.{littleAt}
+use Rattle.tune.specs.declared.opening.Fixed.{Fixed}
 use Rattle.tune.specs.declared.opening.ChannelOpening.{ChannelOpening}
 use Rattle.tune.specs.declared.opening.Opening.{Opening}
 use Rattle.s3m.specs.Layout.{countsOf, pansAt, hasPans}
@@ -20,14 +22,22 @@ settingPan setting = pick (ltb setting 8) 3 (pick (ltb setting 16) 12 8)
 abbrev pub panOf : ℕ → Bool → ℕ → ℕ
 panOf setting pans byte = pick (pans && eqb (bitOf byte 5) 1) (byte % 16) (settingPan setting)
 
--- a channel of a setting byte and its pan byte: 8 to 15 right, 16 to 31 AdLib, 128 up muted
+-- 8 to 15 right, 16 to 31 AdLib, 128 up muted; a file has no transposition (02, 2026-06)
+unfoldable pub fixedBy : ℕ → Fixed
+fixedBy byte =
+    record {
+      muted = leb 128 byte;
+      «right_bank» = leb 8 (byte % 128) && ltb (byte % 128) 16;
+      adlib = leb 16 (byte % 128) && ltb (byte % 128) 32;
+      transposition = pos 0;
+    }
+
+-- a channel of a setting byte and its pan byte
 unfoldable pub channelOpening : ℕ → Bool → ℕ → ChannelOpening
 channelOpening byte pans pan =
     record {
       pan = panOf (byte % 128) pans pan;
-      muted = leb 128 byte;
-      «right_bank» = leb 8 (byte % 128) && ltb (byte % 128) 16;
-      adlib = leb 16 (byte % 128) && ltb (byte % 128) 32;
+      fixed = fixedBy byte;
     }
 
 -- channel settings from 64, the pans behind the lists

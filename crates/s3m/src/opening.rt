@@ -4,13 +4,14 @@ ghost use Prim.Native.Nat.{_%_, _<_, _≤_};
 ghost use lib.ListN.{length};
 ghost use Rattle.laws.specs.Entries.{tabulate};
 ghost use Rattle.s3m.specs.Layout.{countsOf, pansAt};
-ghost use Rattle.s3m.specs.Opening.{settingPan, panOf, channelOpening, channelAt, openingOf};
+ghost use Rattle.s3m.specs.Opening.{settingPan, panOf, fixedBy, channelOpening, channelAt, openingOf};
 use packed::entry::bit_of;
 use packed::entry::byte_at;
 use tune::numbers::low_nibble;
 use tune::numbers::u16_at;
 use tune::numbers::wide;
 use tune::opening::ChannelOpening;
+use tune::opening::Fixed;
 use tune::opening::Opening;
 
 fn setting_of(byte: u8) -> u8
@@ -40,15 +41,24 @@ fn pan_of(setting: u8, pans: bool, byte: u8) -> u8
     setting_pan(setting)
 }
 
-fn channel_opening(byte: u8, pans: bool, pan: u8) -> ChannelOpening
-    ensures { λ r. ⌜ r ≡ channelOpening byte pans pan ⌝ }
+fn fixed_by(byte: u8) -> Fixed
+    ensures { λ r. ⌜ r ≡ fixedBy byte ⌝ }
 {
     let setting = setting_of(byte);
-    ChannelOpening {
-        pan: pan_of(setting, pans, pan),
+    Fixed {
         muted: 128 <= byte,
         right_bank: (8 <= setting) & (setting < 16),
         adlib: (16 <= setting) & (setting < 32),
+        transposition: 0,
+    }
+}
+
+fn channel_opening(byte: u8, pans: bool, pan: u8) -> ChannelOpening
+    ensures { λ r. ⌜ r ≡ channelOpening byte pans pan ⌝ }
+{
+    ChannelOpening {
+        pan: pan_of(setting_of(byte), pans, pan),
+        fixed: fixed_by(byte),
     }
 }
 

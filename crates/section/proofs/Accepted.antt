@@ -1,5 +1,5 @@
 -- Rule 11 refuses no state that Section gives within 2^32 rows of Open. Assumes nothing.
-use Prim.Native.Nat.{ℕ, zero, suc, _+_, _*_, _^_, _≤_}
+use Prim.Native.Nat.{ℕ, zero, suc, _+_, _*_, _^_, _≤_, _<_}
 use mathlib.Core.Path.{_≡_, refl, ap, _∙_, subst}
 use mathlib.Core.Bool.{Bool, true, false, not, _||_}
 use mathlib.Core.List.{List, [], _∷_, map}
@@ -7,10 +7,13 @@ use native.Mathlib.Omega.{arith}
 use borrow.Author.Tests.{le-ltb, lt-leb, ne-eqb}
 use lib.Dec.{T, eqb}
 use lib.Ieee.{isNan}
+use lib.ListN.{length, getD}
 use Rattle.laws.specs.Entries.{every}
-use Rattle.laws.proofs.Picks.{choice}
+use Rattle.laws.proofs.Picks.{choice, or-false}
 use Rattle.tune.specs.Cells.{rowCells}
-use Rattle.tune.specs.Opening.{rule10}
+use Rattle.tune.specs.Transposition.{beyond24}
+use Rattle.tune.specs.Opening.{rule10, blankChannel}
+use Rattle.tune.specs.declared.opening.Fixed.{Fixed}
 use Rattle.tune.specs.declared.opening.ChannelOpening.{ChannelOpening}
 use Rattle.tune.specs.declared.opening.Opening.{Opening}
 use Rattle.tune.proofs.Opened.{in-range}
@@ -27,13 +30,18 @@ use Rattle.row_path.specs.First.{firstPath}
 use Rattle.channel.specs.declared.channels.Rowed.{Rowed}
 use Rattle.channel.specs.declared.state.Channel.{Channel}
 use Rattle.channel.specs.declared.state.Switches.{Switches}
-use Rattle.channel.proofs.Numbered.{opened-numbers, Numbered, channels-numbered}
+use Rattle.channel.specs.Numbers.{Numbers}
+use Rattle.channel.specs.Row.{channelEntered}
+use Rattle.channel.proofs.Armed.{entered-fixed, opened-fixed}
+use Rattle.channel.proofs.Each.{Each, RowKeeps, each-entered}
+use Rattle.channel.proofs.Numbered.{opened-numbers, entered-numbers}
 use Rattle.section.specs.declared.state.State.{State}
 use Rattle.section.specs.Tables.{Tables, tablesRule}
 use Rattle.section.specs.Open.{freshState, openRule, openOf}
 use Rattle.section.specs.Machines.{Voices, rowPlayed, voicesAfter, voicesBehind}
 use Rattle.section.specs.Walk.{voicesOf, stateWith, Walked, walk}
 use Rattle.section.specs.Section.{pathBroken, channelBroken, stateRule}
+use Rattle.section.proofs.Ready.{whole-numbers}
 use Rattle.section.proofs.Walks.{machines, walk-machines}
 
 or-none : (a b : Bool) → a ≡ false → b ≡ false → (a || b) ≡ false
@@ -59,31 +67,50 @@ holds : (b : Bool) → T (not b) → b ≡ false
 holds true h = absurd h
 holds false h = refl
 
--- channels whose floats are numbers keep rule 11
-pub floats-kept : (d : Channel) (i : ℕ) (cs : List Channel) → Numbered d cs → every (λ i c. not (channelBroken c)) i cs ≡ true
+-- a channel that rule 11 does not refuse
+abbrev Whole : Channel → Type 0
+Whole c = channelBroken c ≡ false
+
+whole : (c : Channel) → Numbers c → beyond24 (c .fixed .transposition) ≡ false → Whole c
 unfolding channelBroken
-floats-kept d i [] h = refl
-floats-kept d i (c ∷ cs) h =
-    let n = h 0 (omega arith) in
-    rw (holds (isNan (c .frequency)) (n .frequency), holds (isNan (c .«target_frequency»)) (n .target))
-    (floats-kept d (suc i) cs (λ k b. h (suc k) (omega arith)))
+whole c n i = rw (holds (isNan (c .frequency)) (n .frequency), holds (isNan (c .«target_frequency»)) (n .target), i)
 
-played-numbered : (t : Tables) (w : Switches) (e : Entered) (v : Voices) (d : Channel) → Numbered d (v .channels) → Numbered d (voicesAfter t w e v .channels)
-unfolding voicesAfter rowPlayed rowVisited rowEntered
-played-numbered t w e v d h =
-    choice (λ (r : Rowed). Numbered d (r .channels)) (e .path .hold .held) (λ _. h)
-    (λ _. channels-numbered (rowCells (t .cells) (e .pattern) (e .path .place .row)) (e .path .«s_info») (t .samples) w (v .globalVolume) (v .channels) d h)
+transposition-kept : (c : Channel) → Whole c → beyond24 (c .fixed .transposition) ≡ false
+unfolding channelBroken
+transposition-kept c e = or-false (isNan (c .frequency) || isNan (c .«target_frequency»)) (beyond24 (c .fixed .transposition)) e .1
 
--- the channel machine's floats stay numbers
-pub voices-numbered : (t : Tables) (w : Switches) (es : List Entered) (v : Voices) (d : Channel) → Numbered d (v .channels) → Numbered d (voicesBehind t w es v .channels)
-unfolding voicesBehind
-voices-numbered t w [] v d h = h
-voices-numbered t w (e ∷ es) v d h = voices-numbered t w es (voicesAfter t w e v) d (played-numbered t w e v d h)
+-- a row's start leaves it so
+row-whole : RowKeeps Whole
+row-whole c l sInfo samples w g h =
+    whole (channelEntered c l sInfo samples w g .channel) (entered-numbers c l sInfo samples w g (whole-numbers c h))
+    (ap (λ (f : Fixed). beyond24 (f .transposition)) (entered-fixed c l sInfo samples w g) ∙ transposition-kept c h)
 
-opened-numbered : (d : Channel) (os : List ChannelOpening) → Numbered d (map openedChannel os)
-opened-numbered d [] k b = absurd (omega arith)
-opened-numbered d (o ∷ os) zero b = opened-numbers o
-opened-numbered d (o ∷ os) (suc k) b = opened-numbered d os k (omega arith)
+each-whole : (d : Channel) (i : ℕ) (cs : List Channel) → Each Whole d cs → every (λ i c. not (channelBroken c)) i cs ≡ true
+each-whole d i [] h = refl
+each-whole d i (c ∷ cs) h = rw (h 0 (omega arith)) (each-whole d (suc i) cs (λ k b. h (suc k) (omega arith)))
+
+-- what a row's start keeps of a channel, the channel machine keeps
+module _ (P : Channel → Type 0) (kept : RowKeeps P) (t : Tables) (w : Switches) (d : Channel) where
+  played-each : (e : Entered) (v : Voices) → Each P d (v .channels) → Each P d (voicesAfter t w e v .channels)
+  unfolding voicesAfter rowPlayed rowVisited rowEntered
+  played-each e v h =
+      choice (λ (r : Rowed). Each P d (r .channels)) (e .path .hold .held) (λ _. h)
+      (λ _. each-entered P kept (rowCells (t .cells) (e .pattern) (e .path .place .row)) (e .path .«s_info») (t .samples) w (v .globalVolume) (v .channels) d h)
+
+  pub voices-each : (es : List Entered) (v : Voices) → Each P d (v .channels) → Each P d (voicesBehind t w es v .channels)
+  unfolding voicesBehind
+  voices-each [] v h = h
+  voices-each (e ∷ es) v h = voices-each es (voicesAfter t w e v) (played-each e v h)
+
+-- what each opening value gives, each opened channel has
+pub each-opened :
+    (P : Channel → Type 0) (d : Channel) (e : ChannelOpening) (os : List ChannelOpening) → ((k : ℕ) → k < length os → P (openedChannel (getD os k e))) → Each P d (map openedChannel os)
+each-opened P d e [] h k b = absurd (omega arith)
+each-opened P d e (o ∷ os) h zero b = h 0 (omega arith)
+each-opened P d e (o ∷ os) h (suc k) b = each-opened P d e os (λ j l. h (suc j) (omega arith)) k (omega arith)
+
+opened-whole : (o : ChannelOpening) → beyond24 (o .fixed .transposition) ≡ false → Whole (openedChannel o)
+opened-whole o i = whole (openedChannel o) (opened-numbers o) (ap (λ (f : Fixed). beyond24 (f .transposition)) (opened-fixed o) ∙ i)
 
 -- opening values that rule 10 accepts make a sound path
 pub first-sound : (o : Opening) → rule10 o ≡ 0 → o .speed ≤ 255 → Sound (firstPath (o .speed) (o .tempo) (o .rate))
@@ -111,12 +138,14 @@ own-accepted t o n e f b l h =
     let first = first-sound o f l in
     let from = walk-start (t .orders) (t .cells) short b n (firstPath (o .speed) (o .tempo) (o .rate)) first in
     let w = pathWalk (t .orders) (t .cells) n (firstPath (o .speed) (o .tempo) (o .rate)) in
-    let d = openedChannel (record { pan = 0; muted = false; «right_bank» = false; adlib = false }) in
+    let d = openedChannel blankChannel in
+    let opened = each-opened Whole d blankChannel (o .channels) (λ k b. opened-whole _ (in-range o f .transposition-inside k blankChannel b)) in
     ap (λ (x : Walked). stateRule (x .state)) (walk-machines t n (freshState o))
     ∙ kept-rule _
     (path-kept (w .path) (walk-sound (t .orders) (t .cells) short b n (firstPath (o .speed) (o .tempo) (o .rate)) first)
     (near (w .path .clock .start) n h (subst (λ (m : ℕ). w .path .clock .start ≤ m + n * 1992188) (first-start o) from)))
-    (floats-kept d 0 (voicesBehind t (freshState o .switches) (w .rows) (voicesOf (freshState o)) .channels) (voices-numbered t (freshState o .switches) (w .rows) (voicesOf (freshState o)) d (opened-numbered d (o .channels))))
+    (each-whole d 0 (voicesBehind t (freshState o .switches) (w .rows) (voicesOf (freshState o)) .channels)
+    (voices-each Whole row-whole t (freshState o .switches) d (w .rows) (voicesOf (freshState o)) opened))
 
 -- Open accepts with 0 and the fresh state
 pub open-accepted : (t : Tables) (o : Opening) → openRule t o ≡ 0 → openOf t o ≡ record { refusal = 0; state = freshState o }

@@ -11,6 +11,7 @@ use Rattle.laws.specs.Entries.{every}
 use Rattle.laws.proofs.Picks.{or-false}
 use Rattle.laws.proofs.Rules.{sound, kept, not-zero}
 use Rattle.laws.proofs.Tables.{at}
+use Rattle.tune.specs.Transposition.{beyond24}
 use Rattle.tune.specs.Opening.{rateBroken}
 use Rattle.tune.specs.Sizes.{patternCount}
 use Rattle.tune.proofs.Sized.{sized}
@@ -60,10 +61,11 @@ path-parts p e =
 number : (b : Bool) → b ≡ false → T (not b)
 number b e = subst (λ (x : Bool). T (not x)) (sym e) tt
 
-whole-numbers : (c : Channel) → channelBroken c ≡ false → Numbers c
+-- what rule 11 does not refuse has numbers for floats
+pub whole-numbers : (c : Channel) → channelBroken c ≡ false → Numbers c
 unfolding channelBroken
 whole-numbers c e =
-    let b = or-false (isNan (c .frequency)) (isNan (c .«target_frequency»)) e in
+    let b = or-false (isNan (c .frequency)) (isNan (c .«target_frequency»)) (or-false _ (beyond24 (c .fixed .transposition)) e .0) in
     record { frequency = number (isNan (c .frequency)) (b .0); target = number (isNan (c .«target_frequency»)) (b .1) }
 
 pub channels-whole : (cs : List Channel) → every (λ i c. not (channelBroken c)) 0 cs ≡ true → (d : Channel) → Numbered d cs

@@ -1,11 +1,12 @@
 -- Opening values that examples start from. Assumes nothing.
 use mathlib.Core.Bool.{false}
 use lib.ListN.{replicate}
+use Rattle.tune.specs.Opening.{blankFixed}
 use Rattle.tune.specs.declared.opening.ChannelOpening.{ChannelOpening}
 use Rattle.tune.specs.declared.opening.Opening.{Opening}
 
 abbrev pub centred : ChannelOpening
-centred = record { pan = 8; muted = false; «right_bank» = false; adlib = false }
+centred = record { pan = 8; fixed = blankFixed }
 
 abbrev pub ordinary : Opening
 ordinary =

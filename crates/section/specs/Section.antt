@@ -7,6 +7,7 @@ use lib.Ieee.{isNan}
 use lib.ListN.{length, drop}
 use Rattle.laws.specs.Entries.{every}
 use Rattle.laws.specs.Refusals.{refuse, orElse}
+use Rattle.tune.specs.Transposition.{beyond24}
 use Rattle.tune.specs.Opening.{rateBroken}
 use Rattle.row_path.specs.declared.machine.Path.{Path}
 use Rattle.channel.specs.declared.state.Channel.{Channel}
@@ -23,9 +24,9 @@ pathBroken p =
     ltb 63 (p .place .row) || ltb 63 (p .«pattern_loop» .«start_row») || eqb (p .clock .speed) 0 || ltb (p .clock .tempo) 32
     || ltb (2 ^ 62) (p .clock .start) || rateBroken (p .clock .rate) || leb (2 * p .clock .tempo) (p .clock .remainder)
 
--- a frequency or target that is not a number
+-- a frequency or target that is not a number; a transposition outside the span (02, 2026-06)
 unfoldable pub channelBroken : Channel → Bool
-channelBroken c = isNan (c .frequency) || isNan (c .«target_frequency»)
+channelBroken c = isNan (c .frequency) || isNan (c .«target_frequency») || beyond24 (c .fixed .transposition)
 
 unfoldable pub stateRule : State → ℕ
 stateRule s = refuse 11 (pathBroken (s .path) || not (every (λ i c. not (channelBroken c)) 0 (s .channels)))

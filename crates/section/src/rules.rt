@@ -11,6 +11,7 @@ use tune::opening::rate_broken;
 use tune::refusals::first_of;
 use tune::refusals::refusal;
 use tune::sizes::sizes_rule;
+use tune::transposition::is_beyond_24;
 
 fn path_broken(p: Path) -> bool
     ensures { λ r. ⌜ r ≡ pathBroken p ⌝ }
@@ -27,7 +28,10 @@ fn path_broken(p: Path) -> bool
 fn channel_broken(c: Channel) -> bool
     ensures { λ r. ⌜ r ≡ channelBroken c ⌝ }
 {
-    (c.frequency != c.frequency) | (c.target_frequency != c.target_frequency)
+    let fixed = c.fixed;
+    (c.frequency != c.frequency)
+        | (c.target_frequency != c.target_frequency)
+        | is_beyond_24(fixed.transposition)
 }
 
 fn channels_kept(channels: [Channel; 32]) -> bool

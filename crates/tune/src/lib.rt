@@ -6,3 +6,4 @@ pub mod parts;
 pub mod refusals;
 pub mod samples;
 pub mod sizes;
+pub mod transposition;

@@ -1,12 +1,20 @@
 // The opening values of a tune, and rule 10.
 ghost use mathlib.Core.Path.{_≡_};
-ghost use Rattle.tune.specs.Opening.{levelsBroken, rateBroken, pansKept, rule10, blankOpening};
+ghost use Rattle.tune.specs.Opening.{levelsBroken, rateBroken, channelBroken, channelsKept, rule10, blankFixed, blankOpening};
+use crate::transposition::is_beyond_24;
 
-pub struct ChannelOpening {
-    pub pan: u8,
+// What no row changes of a channel.
+pub struct Fixed {
     pub muted: bool,
     pub right_bank: bool,
     pub adlib: bool,
+    // in semitones
+    pub transposition: i8,
+}
+
+pub struct ChannelOpening {
+    pub pan: u8,
+    pub fixed: Fixed,
 }
 
 pub struct Opening {
@@ -33,13 +41,20 @@ pub fn rate_broken(rate: u32) -> bool
     (rate == 0) | (100000 < rate)
 }
 
-fn pans_kept(channels: [ChannelOpening; 32]) -> bool
-    ensures { λ r. ⌜ r ≡ pansKept channels ⌝ }
+fn channel_broken(c: ChannelOpening) -> bool
+    ensures { λ r. ⌜ r ≡ channelBroken c ⌝ }
+{
+    let fixed = c.fixed;
+    (15 < c.pan) | is_beyond_24(fixed.transposition)
+}
+
+fn channels_kept(channels: [ChannelOpening; 32]) -> bool
+    ensures { λ r. ⌜ r ≡ channelsKept channels ⌝ }
 {
     let mut i: usize = 0;
     while i < 32 {
         let c = channels[i];
-        if 15 < c.pan {
+        if channel_broken(c) {
             return false;
         }
         i += 1;
@@ -53,12 +68,23 @@ pub fn opening_rule(o: Opening) -> u8
 {
     let channels = o.channels;
     let levels = levels_broken(o.speed, o.tempo, o.global_volume);
-    let pans = pans_kept(channels);
+    let kept = channels_kept(channels);
     let rate = rate_broken(o.rate);
-    if levels | !pans | rate {
+    if levels | !kept | rate {
         return 10;
     }
     0
+}
+
+fn blank_fixed() -> Fixed
+    ensures { λ r. ⌜ r ≡ blankFixed ⌝ }
+{
+    Fixed {
+        muted: false,
+        right_bank: false,
+        adlib: false,
+        transposition: 0,
+    }
 }
 
 // The opening values beside a refusal, all 0.
@@ -67,9 +93,7 @@ pub fn blank_opening() -> Opening
 {
     let blank = ChannelOpening {
         pan: 0,
-        muted: false,
-        right_bank: false,
-        adlib: false,
+        fixed: blank_fixed(),
     };
     Opening {
         speed: 0,

@@ -2,30 +2,18 @@
 use borrow.Author.Needs.{needs}
 use borrow.Author.Tests.{ne-eqb}
 use Rattle.channel.specs.Commands.{extendedBy}
-use Rattle.channel.specs.Set.{withGlissando, withPan}
+use Rattle.channel.specs.Set.{withGlissando, withVibrato, withTremolo, withPan}
 use Rattle.channel.proofs.commands.extended.Statement.{statement}
 use Rattle.channel.proofs.commands.extended.Tie as tie
 
 tune-finely-requires : tie.Need-tune-finely-requires
 tune-finely-requires c κs = search needs
 
-waveform-of-requires : tie.Need-waveform-of-requires
-waveform-of-requires c κs = search needs
+shape-requires : tie.Need-shape-requires
+shape-requires c κs = search needs
 
-keeps-position-requires : tie.Need-keeps-position-requires
-keeps-position-requires c κs = search needs
-
-with-vibrato-requires : tie.Need-with-vibrato-requires
-with-vibrato-requires c κs = search needs
-
-waveform-of-requires-2 : tie.Need-waveform-of-requires-2
-waveform-of-requires-2 c κs = search needs
-
-keeps-position-requires-2 : tie.Need-keeps-position-requires-2
-keeps-position-requires-2 c κs = search needs
-
-with-tremolo-requires : tie.Need-with-tremolo-requires
-with-tremolo-requires c κs = search needs
+shape-requires-2 : tie.Need-shape-requires-2
+shape-requires-2 c κs = search needs
 
 stereo-pan-requires : tie.Need-stereo-pan-requires
 stereo-pan-requires c κs = search needs
@@ -39,12 +27,12 @@ unfolding extendedBy withGlissando withPan
 returns-2 c = simp (c .before .match .keys2, ← c .tune-finely .ensures)
 
 returns-3 : tie.Need-returns-3
-unfolding extendedBy withGlissando withPan
-returns-3 c = simp (c .before .before .before .match .keys3, ← c .before .before .waveform-of .ensures, ← c .before .keeps-position .ensures, ← c .with-vibrato .ensures)
+unfolding extendedBy withGlissando withVibrato withPan
+returns-3 c = simp (c .before .before .match .keys3, ← c .shape .ensures)
 
 returns-4 : tie.Need-returns-4
-unfolding extendedBy withGlissando withPan
-returns-4 c = simp (c .before .before .before .match .keys4, ← c .before .before .waveform-of2 .ensures, ← c .before .keeps-position2 .ensures, ← c .with-tremolo .ensures)
+unfolding extendedBy withGlissando withTremolo withPan
+returns-4 c = simp (c .before .before .match .keys4, ← c .shape2 .ensures)
 
 returns-5 : tie.Need-returns-5
 unfolding extendedBy withGlissando withPan
@@ -59,4 +47,4 @@ unfolding extendedBy withGlissando withPan
 returns-7 c = simp (ne-eqb _ _ (c .match .rest .0 .0 .0 .0 .0 .1), ne-eqb _ _ (c .match .rest .0 .0 .0 .0 .1), ne-eqb _ _ (c .match .rest .0 .0 .0 .1), ne-eqb _ _ (c .match .rest .0 .0 .1), ne-eqb _ _ (c .match .rest .0 .1), ne-eqb _ _ (c .match .rest .1))
 
 pub extended-spec : {M : Type 1} → statement M
-extended-spec = tie.close (tie.spec tune-finely-requires waveform-of-requires keeps-position-requires with-vibrato-requires waveform-of-requires-2 keeps-position-requires-2 with-tremolo-requires stereo-pan-requires returns returns-2 returns-3 returns-4 returns-5 returns-6 returns-7)
+extended-spec = tie.close (tie.spec tune-finely-requires shape-requires shape-requires-2 stereo-pan-requires returns returns-2 returns-3 returns-4 returns-5 returns-6 returns-7)

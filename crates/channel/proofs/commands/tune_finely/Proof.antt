@@ -10,18 +10,9 @@ returns : tie.Need-returns
 unfolding finetuned withPitch
 returns c = simp (eq-eqb _ _ (c .if1 .taken))
 
-finetune-requires : tie.Need-finetune-requires
-finetune-requires c κs = search needs
-
-note-to-frequency-requires : tie.Need-note-to-frequency-requires
-note-to-frequency-requires c κs = search needs
-
-clamp-amiga-requires : tie.Need-clamp-amiga-requires
-clamp-amiga-requires c κs = search needs
-
 returns-2 : tie.Need-returns-2
 unfolding finetuned withPitch
-returns-2 c = simp (ne-eqb _ _ (c .before .before .before .if1 .left), ← c .before .before .finetune .ensures, ← c .before .note-to-frequency .ensures, ← c .clamp-amiga .ensures)
+returns-2 c = simp (ne-eqb _ _ (c .before .before .before .if1 .left), ← c .before .before .finetune .ensures, ← c .before .frequency-on .ensures, ← c .clamp-amiga .ensures)
 
 pub tune-finely-spec : {M : Type 1} → statement M
-tune-finely-spec = tie.close (tie.spec returns finetune-requires note-to-frequency-requires clamp-amiga-requires returns-2)
+tune-finely-spec = tie.close (tie.spec returns (λ c κs. search needs) (λ c κs. search needs) (λ c κs. search needs) returns-2)

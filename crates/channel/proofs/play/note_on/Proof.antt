@@ -11,8 +11,8 @@ enum-told c = search needs
 enum-known-named : tie.Need-enum-known-named
 enum-known-named c = search needs
 
-note-to-frequency-requires : tie.Need-note-to-frequency-requires
-note-to-frequency-requires c κs = search needs
+frequency-on-requires : tie.Need-frequency-on-requires
+frequency-on-requires c κs = search needs
 
 is-slide-requires : tie.Need-is-slide-requires
 is-slide-requires c κs = search needs
@@ -22,7 +22,7 @@ aim-requires c κs = search needs
 
 returns : tie.Need-returns
 unfolding noteOn ofBits
-returns c = simp (c .before .before .before .before .before .before .named .given .1, ← c .before .before .before .before .note-to-frequency .ensures, ← c .before .before .before .is-slide .ensures, c .before .if1 .taken, ← c .aim .ensures)
+returns c = simp (c .before .before .before .before .before .before .named .given .1, ← c .before .before .before .before .frequency-on .ensures, ← c .before .before .before .is-slide .ensures, c .before .if1 .taken, ← c .aim .ensures)
 
 start-requires : tie.Need-start-requires
 start-requires c κs = search needs
@@ -33,7 +33,7 @@ returns-2 c = simp (c .enum-told .given .1)
 
 returns-3 : tie.Need-returns-3
 unfolding noteOn ofBits
-returns-3 c = simp (c .before .before .before .before .before .before .named .given .1, ← c .before .before .before .before .note-to-frequency .ensures, ← c .before .before .before .is-slide .ensures, c .before .if1 .left, ← c .start .ensures)
+returns-3 c = simp (c .before .before .before .before .before .before .named .given .1, ← c .before .before .before .before .frequency-on .ensures, ← c .before .before .before .is-slide .ensures, c .before .if1 .left, ← c .start .ensures)
 
 pub note-on-spec : {M : Type 1} → statement M
-note-on-spec = tie.close (tie.spec enum-told enum-known-named note-to-frequency-requires is-slide-requires aim-requires returns start-requires returns-2 returns-3)
+note-on-spec = tie.close (tie.spec enum-told enum-known-named frequency-on-requires is-slide-requires aim-requires returns start-requires returns-2 returns-3)

@@ -1,6 +1,6 @@
 -- `channel::play::start` meets its contract. Assumes nothing.
 use borrow.Author.Needs.{needs}
-use Rattle.channel.specs.Play.{started}
+use Rattle.channel.specs.Play.{renewed, started}
 use Rattle.channel.specs.Set.{withStart, withPitch}
 use Rattle.channel.proofs.play.start.Statement.{statement}
 use Rattle.channel.proofs.play.start.Tie as tie
@@ -21,8 +21,8 @@ voice-of-requires : tie.Need-voice-of-requires
 voice-of-requires c κs = search needs
 
 returns : tie.Need-returns
-unfolding started withStart withPitch
-returns c = simp (c .before .before .before .before .clamp-amiga .ensures, c .before .before .before .start-of .ensures, c .before .before .choose .ensures, c .before .choose2 .ensures, c .voice-of .ensures)
+unfolding started renewed withStart withPitch
+returns c = simp (c .before .before .before .before .before .before .clamp-amiga .ensures, c .before .before .before .before .before .start-of .ensures, c .before .before .before .before .choose .ensures, c .before .before .choose2 .ensures, c .voice-of .ensures)
 
 pub start-spec : {M : Type 1} → statement M
 start-spec = tie.close (tie.spec clamp-amiga-requires start-of-requires choose-requires choose-requires-2 voice-of-requires returns)

@@ -13,7 +13,7 @@ use Rattle.lomqashe.proofs.opening.channels_of.Statement.{statement}
 use Rattle.lomqashe.proofs.opening.channels_of.Tie as tie
 
 abbrev Inv-loop : tie.InvT-loop
-Inv-loop s channels₀ i₀ channels i = (i ≤ 32) × (length channels₀ ≡ 32) × (length channels ≡ 32) × (channels ≡ pieces i (λ k. settingAt s (16 + k * 4) ∷ []) ++ drop i channels₀)
+Inv-loop s channels₀ i₀ channels i = (i ≤ 32) × (length channels₀ ≡ 32) × (length channels ≡ 32) × (channels ≡ pieces i (λ k. settingAt s (16 + k * 4) (144 + k) ∷ []) ++ drop i channels₀)
 
 abbrev μ-loop : tie.MeasureT-loop
 μ-loop s channels₀ i₀ channels i = 32 - i
@@ -26,11 +26,11 @@ loop-again : tie.Need-loop-again Inv-loop μ-loop
 loop-again c =
     let l = c .before .before .loop in
     let h : l .i < 32 = c .before .loop-test .taken in
-    (omega arith, l .inv .1, simp length-set (l .inv .2), rw (l .inv .3, c .channel-at2 .ensures) (tabulate-put (λ k. settingAt (now (c .before .before .before .before .before .args .s)) (16 + k * 4)) _ (l .i) (rw (l .inv .1) h)))
+    (omega arith, l .inv .1, simp length-set (l .inv .2), rw (l .inv .3, c .channel-at2 .ensures) (tabulate-put (λ k. settingAt (now (c .before .before .before .before .before .args .s)) (16 + k * 4) (144 + k)) _ (l .i) (rw (l .inv .1) h)))
 
 pub channels-of-spec : {M : Type 1} → statement M
 channels-of-spec =
     tie.close
-    (tie.spec Inv-loop μ-loop (λ c κs. search needs) loop-holds (λ c. search needs) (λ c. search needs) (λ c κs. search needs)
+    (tie.spec Inv-loop μ-loop (λ c κs. search needs) loop-holds (λ c. search needs) (λ c. search needs) (λ c. search needs) (λ c κs. search needs)
     (λ c. search needs) (λ c. search needs) (λ c. search needs) (λ c. search needs) loop-again
     (λ c. let e : c .before .loop .i ≡ 32 = omega arith in c .before .loop .inv .3 ∙ rw e (append-nil _)))

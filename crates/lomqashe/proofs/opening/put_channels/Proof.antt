@@ -4,9 +4,9 @@ use Prim.Native.Nat.{_+_, _*_, _≤_, _-_}
 use lib.ListN.{length}
 use borrow.Author.Needs.{needs}
 use native.Mathlib.Omega.{arith}
-use mathlib.Core.Path.{_≡_, refl}
+use mathlib.Core.Path.{_≡_, refl, _∙_}
 use Rattle.laws.proofs.Parts.{put-as}
-use Rattle.laws.proofs.Turns.{Written, none-written, one-more, all-written}
+use Rattle.laws.proofs.Turns.{Written, none-written, one-more, each-written}
 use Rattle.lomqashe.specs.Openings.{settingBytes}
 use Rattle.lomqashe.proofs.opening.put_channels.Statement.{statement}
 use Rattle.lomqashe.proofs.opening.put_channels.Tie as tie
@@ -32,7 +32,8 @@ returns : tie.Need-returns Inv-loop μ-loop
 returns c =
     let l = c .before .loop in
     let s = c .before .before .before .args in
-    all-written settingBytes 16 4 (s .t2) (now (s .out)) (l .i) (l .out) (l .inv .3) (omega arith) (omega arith)
+    let n : l .i ≡ 32 = omega arith in
+    each-written settingBytes 16 4 (s .t2) (now (s .out)) (l .i) (l .out) (l .inv .3) (omega arith) ∙ rw n
 
 pub put-channels-spec : {M : Type 1} → statement M
 put-channels-spec =

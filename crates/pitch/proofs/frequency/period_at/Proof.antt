@@ -1,9 +1,12 @@
 -- `pitch::frequency::period_at` meets its contract. Assumes nothing.
-use Prim.Native.Nat.{_≤_}
+use mathlib.Core.Path.{ap, ap₂, _∙_}
+use Prim.Native.Nat.{_*_, _/_, _≤_}
+use mir.Facts.{toZ-ofZ}
 use borrow.Author.Needs.{needs}
 use Rattle.pitch.specs.Frequency.{periodAt}
-use Rattle.pitch.specs.Periods.{noteNumber}
-use Rattle.pitch.proofs.Falling.{number-below, period-most}
+use Rattle.pitch.specs.Periods.{periodOf, noteNumber}
+use Rattle.pitch.proofs.Falling.{period-most}
+use Rattle.pitch.proofs.Transposed.{number-below}
 use Rattle.pitch.proofs.frequency.period_at.Statement.{statement}
 use Rattle.pitch.proofs.frequency.period_at.Tie as tie
 
@@ -13,7 +16,7 @@ note-period-requires c κs = search needs
 mul-result : tie.Need-mul-result
 mul-result c =
     let note = c .before .before .args .note in
-    let most : c .note-period .result ≤ 27392 = rw (c .note-period .ensures) (period-most (noteNumber note) (number-below note)) in
+    let most : c .note-period .result ≤ 27392 = rw (c .note-period .ensures) (period-most (noteNumber note _) (number-below note _)) in
     search (needs, most)
 
 at-least-one-requires : tie.Need-at-least-one-requires
@@ -24,7 +27,10 @@ div-result c = search needs
 
 returns : tie.Need-returns
 unfolding periodAt
-returns c = cc
+returns c =
+    let a = c .before .before .before in
+    let e = c .before .note-period .ensures ∙ ap (λ t. periodOf (noteNumber (a .args .note) t)) (toZ-ofZ (a .fits .transposition)) in
+    ap₂ (λ p n. 8363 * p / n) e (c .at-least-one .ensures)
 
 pub period-at-spec : {M : Type 1} → statement M
 period-at-spec =

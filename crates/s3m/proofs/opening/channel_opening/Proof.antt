@@ -12,7 +12,7 @@ pan-of-requires c κs = search needs
 
 returns : tie.Need-returns
 unfolding channelOpening
-returns c = rw (c .pan-of .ensures, c .before .setting-of .ensures)
+returns c = rw (c .before .pan-of .ensures, c .before .before .setting-of .ensures, c .fixed-by .ensures)
 
 pub channel-opening-spec : {M : Type 1} → statement M
-channel-opening-spec = tie.close (tie.spec setting-of-requires pan-of-requires returns)
+channel-opening-spec = tie.close (tie.spec setting-of-requires pan-of-requires (λ c κs. search needs) returns)

@@ -1,4 +1,10 @@
 -- `section::rules::channel_broken` meets its contract. Assumes nothing.
+use mathlib.Core.Path.{ap, _∙_}
+use mir.Syntax.{w8}
+use mir.Val.{SFits}
+use mir.Facts.{toZ-ofZ}
+use borrow.Author.Needs.{needs}
+use Rattle.tune.specs.Transposition.{beyond24}
 use Rattle.section.proofs.Nans.{unequal-nan}
 use Rattle.section.specs.Section.{channelBroken}
 use Rattle.section.proofs.rules.channel_broken.Statement.{statement}
@@ -6,7 +12,10 @@ use Rattle.section.proofs.rules.channel_broken.Tie as tie
 
 returns : tie.Need-returns
 unfolding channelBroken
-returns c = rw (unequal-nan, unequal-nan)
+returns c =
+    let x = c .before .before .before .before .before .args .c in
+    let f : SFits w8 (x .fixed .transposition) = record { sfits = c .before .struct-told .given .1 .1 .1 .0 .1 } in
+    rw (unequal-nan, unequal-nan, c .is-beyond-24 .ensures ∙ ap beyond24 (toZ-ofZ f))
 
 pub channel-broken-spec : {M : Type 1} → statement M
-channel-broken-spec = tie.close (tie.spec returns)
+channel-broken-spec = tie.close (tie.spec (λ c κs. search needs) returns)
