@@ -7,7 +7,33 @@ use std::{env, fs, process};
 type Patch = (&'static str, &'static str, &'static str);
 
 const FACTOR: &str = "crate::factors::slide_factor(ch.command, ch.info)";
+/// The three places where `enter_row` works out a pitch ask the bridge, which has the channel's transposition.
 const PLAYER: &[Patch] = &[
+    (
+        "transposition",
+        "    pub voice_global_vol: u8,\n}",
+        "    pub voice_global_vol: u8,\n    pub transposition: i8,\n}",
+    ),
+    (
+        "transposition-of-a-fresh-channel",
+        "            voice_global_vol: 64,\n        }\n",
+        "            voice_global_vol: 64,\n            transposition: 0,\n        }\n",
+    ),
+    (
+        "pitch-of-a-note",
+        "note_to_frequency(cell.note, c5)",
+        "bridge::frequency(cell.note, ch.transposition, c5)",
+    ),
+    (
+        "pitch-of-a-slide-without-a-note",
+        "note_to_frequency(ch.last_note, c5)",
+        "bridge::frequency(ch.last_note, ch.transposition, c5)",
+    ),
+    (
+        "pitch-of-a-finetune",
+        "note_to_frequency(ch.last_note, new_c5)",
+        "bridge::frequency(ch.last_note, ch.transposition, new_c5)",
+    ),
     ("fine-slide-down", "2.0f32.powf(-amount * scale / 768.0)", FACTOR),
     ("fine-slide-up", "2.0f32.powf(amount * scale / 768.0)", FACTOR),
     ("retrigger-on-tick-0", "Self::apply_retrigger(ch);", ""),

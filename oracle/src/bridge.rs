@@ -1,12 +1,13 @@
 //! The original's player, run row by row. build.rs makes this a part of the patched player.rs, so that it sees its
 //! private functions and fields.
 
-use super::{Channel, PlayerState};
+use super::{Channel, PlayerState, note_index_to_frequency, note_to_frequency};
 use crate::card::Card;
 use crate::header::parse_header;
 use crate::layout::{self, Layout};
 use crate::pattern::{Cell, Pattern};
 use crate::state::{Kept, SAMPLE_RATE, STATE_BYTES, State, lay_rest, voice_mark};
+use crate::transposed;
 use crate::tune::{CHANNELS, RECORD_BYTES, ROWS, Record, Tune, WORKED};
 
 /// Put into every `sample_pos` before a row is entered. `enter_row` never reads that field and writes it exactly where
@@ -149,6 +150,7 @@ pub fn open(tune: &Tune) -> State {
         muted: opening.channels[i].muted,
         right_bank: opening.channels[i].right_bank,
         adlib: opening.channels[i].adlib,
+        transposition: opening.channels[i].transposition,
         ..Channel::default()
     };
     State {
@@ -175,6 +177,15 @@ pub fn walk(tune: &Tune, from: State, limit: usize, mut each: impl FnMut(&State,
         state = State::decode(&original.bytes());
     }
     State::decode(&original.bytes())
+}
+
+/// What `enter_row` has for a note's frequency: at transposition 0 the original's own function answers, elsewhere its
+/// table at the number that 02 gives.
+pub fn frequency(note: u8, transposition: i8, c5_speed: u32) -> f32 {
+    match transposition {
+        0 => note_to_frequency(note, c5_speed),
+        _ => note_index_to_frequency(transposed::number(note, transposition), c5_speed),
+    }
 }
 
 fn pattern(tune: &Tune, index: usize) -> Pattern {

@@ -8,6 +8,7 @@ pub mod pitch;
 pub mod records;
 pub mod refused;
 mod states;
+pub mod transposed;
 mod tunes;
 
 use crate::random::Random;

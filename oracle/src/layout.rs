@@ -40,6 +40,10 @@ impl Layout<'_> {
         }
     }
 
+    pub fn signed(&mut self, field: &mut i8) {
+        *field = i8::from_le_bytes(self.next(field.to_le_bytes()));
+    }
+
     pub fn flags<const N: usize>(&mut self, fields: [&mut bool; N]) {
         for field in fields {
             *field = self.next([u8::from(*field)]) != [0];

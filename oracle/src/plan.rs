@@ -1,10 +1,11 @@
 //! Which calls are recorded: each from a seed, and answered by the judge as it is asked. Of most kinds those are kept
-//! that show something which none before them did.
+//! that show something which no others do.
 
 mod closed;
 mod head;
 mod pitch;
 mod strikes;
+pub mod transposed;
 
 use crate::calls::{Call, Function};
 use crate::cover;
@@ -25,9 +26,9 @@ const PARTED: u64 = 40;
 /// As many rows in sections of so many.
 const PARTED_ROWS: u32 = 21;
 const PARTS: [u32; 3] = [PARTED_ROWS, 7, 1];
-const VISITED: u64 = 20;
+const VISITED: u64 = 30;
 const VISITS: usize = 30;
-const REFUSED_SEED: u64 = 935;
+const REFUSED_SEED: u64 = 939;
 const REFUSED: usize = 4_000;
 /// Every so many rows one is put to Strikes and Line.
 const RECORDS: usize = 23;
@@ -36,6 +37,7 @@ const SPARE: [usize; 4] = [0, 1, 7, 535];
 pub fn recorded() -> Vec<Case> {
     let mut chosen = strikes::groups();
     chosen.extend(closed::groups());
+    chosen.extend(transposed::groups());
     let first = chosen.len() + FIRST_FILES;
     let groups = chosen
         .into_iter()

@@ -7,6 +7,11 @@ impl Random {
         Random(seed)
     }
 
+    /// Another generator: what is drawn from it leaves the numbers of this one as they are.
+    pub fn apart(&self) -> Random {
+        Random(self.0 ^ 0x7472_616E_7370_6F73)
+    }
+
     pub fn number(&mut self) -> u64 {
         self.0 = self.0.wrapping_add(0x9E37_79B9_7F4A_7C15);
         let mut z = self.0;

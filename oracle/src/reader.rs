@@ -166,6 +166,8 @@ fn channel_setting(setting: u8) -> ChannelOpening {
         muted: setting >= 128,
         right_bank: (8..=15).contains(&place),
         adlib: (16..=31).contains(&place),
+        // 02: 'Read gives 0.'
+        transposition: 0,
     }
 }
 

@@ -5,6 +5,7 @@ use crate::card::unit;
 use crate::closed;
 use crate::head::{INTERRUPT, LATE, LOAD, LOADED, REGISTERS_BYTES, STATUS};
 use crate::state::{STATE_BYTES, State};
+use crate::transposed::SPAN;
 use crate::tune::{OPENING_BYTES, Opening, PATTERN_BYTES, RECORD_BYTES, SAMPLE_BYTES, Tune};
 
 pub const MOST_START: u64 = 1 << 62;
@@ -76,6 +77,7 @@ fn opening(bytes: &[u8]) -> Vec<Fact> {
         return Vec::new();
     }
     let opening = Opening::decode(bytes);
+    let transposition = |out: fn(i8) -> bool| opening.channels.iter().any(|ch| out(ch.transposition));
     let facts = [
         (opening.speed == 0, "opening speed 0"),
         (opening.tempo < 32, "opening tempo below 32"),
@@ -83,6 +85,8 @@ fn opening(bytes: &[u8]) -> Vec<Fact> {
         (opening.channels.iter().any(|ch| ch.pan > 15), "pan above 15"),
         (opening.rate == 0, "opening rate 0"),
         (opening.rate > 100_000, "opening rate above 100,000"),
+        (transposition(is_below), "opening transposition below -24"),
+        (transposition(is_above), "opening transposition above 24"),
     ];
     of_rule(10, facts)
 }
@@ -94,6 +98,7 @@ fn state(bytes: &[u8]) -> Vec<Fact> {
     let state = State::decode(bytes);
     let (card, remainder) = (&state.card, u32::from(state.card.remainder));
     let (mut frequencies, mut targets) = (state.channels.iter(), state.channels.iter());
+    let transposition = |out: fn(i8) -> bool| state.channels.iter().any(|ch| out(ch.transposition));
     let facts = [
         (state.row > 63, "row above 63"),
         (state.loop_start_row > 63, "loop start above 63"),
@@ -105,8 +110,18 @@ fn state(bytes: &[u8]) -> Vec<Fact> {
         (remainder >= unit(state.bpm), REMAINDER),
         (frequencies.any(|ch| ch.frequency.is_nan()), "frequency not a number"),
         (targets.any(|ch| ch.target_frequency.is_nan()), "target not a number"),
+        (transposition(is_below), "transposition below -24"),
+        (transposition(is_above), "transposition above 24"),
     ];
     of_rule(11, facts)
+}
+
+fn is_below(transposition: i8) -> bool {
+    transposition < *SPAN.start()
+}
+
+fn is_above(transposition: i8) -> bool {
+    transposition > *SPAN.end()
 }
 
 /// Asked of tables of any sizes, so that a table may break rule 9 and this.

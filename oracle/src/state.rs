@@ -10,6 +10,8 @@ use crate::tune::CHANNELS;
 pub const HEAD_BYTES: usize = 64;
 pub const CHANNEL_BYTES: usize = 80;
 pub const STATE_BYTES: usize = HEAD_BYTES + CHANNELS * CHANNEL_BYTES;
+/// Where a channel has its transposition.
+pub const TRANSPOSITION: usize = 45;
 /// The S infos stand in the head, and not in this slot of a channel's memory.
 pub const S_SLOT: usize = 19;
 /// The mixer's rate, which no row reads.
@@ -103,7 +105,8 @@ fn lay_channel(layout: &mut Layout, ch: &mut Channel, kept: &mut [u8; 6]) {
         ch.opl_voice = voice(mark);
     }
     layout.bytes([&mut ch.voice_global_vol]);
-    layout.next([0; 3]);
+    layout.signed(&mut ch.transposition);
+    layout.next([0; 2]);
     let [of_s, behind @ ..] = kept;
     layout.bytes(&mut ch.effect_memory[..S_SLOT]);
     layout.bytes([of_s]);

@@ -3,14 +3,18 @@
 use crate::calls::{Call, Function, UNTOUCHED};
 use crate::closed::{B, S, is_closed};
 use crate::generate::closed::Put;
-use crate::generate::{closed, pitch, records};
+use crate::generate::{closed, pitch, records, transposed};
 use crate::head::{CLEAR, LOAD, STRIKE, step};
 use crate::list::{self, Case};
 use crate::player::PERIOD_TABLE;
-use crate::player::bridge::{Original, open, walk};
+use crate::player::bridge::{Original, frequency, open, walk};
 use crate::random::Random;
+use crate::state::{CHANNEL_BYTES, HEAD_BYTES, TRANSPOSITION};
 use crate::strikes::struck;
-use crate::tune::{CELL, EMPTY_CELL, PATTERN_BYTES, RECORD_BYTES, ROW_BYTES, Tune, le32, le64};
+use crate::transposed::{SPAN, number};
+use crate::tune::{
+    CELL, CHANNELS, EMPTY_CELL, PATTERN_BYTES, RECORD_BYTES, ROW_BYTES, TRANSPOSITIONS, Tune, le32, le64,
+};
 
 #[test]
 fn a_list_is_read_whole_or_misread() {
@@ -306,5 +310,108 @@ fn strikes_and_loads_add_up() {
             struck += u8::from(command == STRIKE && registers[1] != before[1]);
         }
         assert_eq!(struck + (registers[1] & 1), taken, "{list:#x}");
+    }
+}
+
+/// Worked out by hand from 02: octave × 12 + semitone, uncut, and the transposition, then cut.
+#[test]
+fn a_transposed_number_is_02s() {
+    let numbers = [
+        (0x00, 0, 0),
+        (0x00, -24, 0),
+        (0x00, 24, 24),
+        (0x0B, -12, 0),
+        (0x17, -20, 0),
+        (0x17, -19, 0),
+        (0x17, -18, 1),
+        (0x40, -1, 47),
+        // 60: semitones 12 to 15 count on into the next octave.
+        (0x4C, 0, 60),
+        (0x4C, 1, 61),
+        (0x4F, -3, 60),
+        (0x8B, 0, 107),
+        (0x8B, 1, 107),
+        (0x8B, -1, 106),
+        // 111, which would be 102 if it were cut before.
+        (0x8F, -5, 106),
+        (0x8F, -4, 107),
+        (0x8F, -3, 107),
+        (0x80, 24, 107),
+        (0xFD, 24, 107),
+        (0xFD, -24, 107),
+        (0xA0, -24, 96),
+    ];
+    for (note, transposition, expected) in numbers {
+        assert_eq!(number(note, transposition), expected, "{note:#x} by {transposition}");
+    }
+}
+
+/// The note byte of a number, with a semitone of 0 to 11.
+fn note_of(number: i32) -> u8 {
+    (number / 12 * 16 + number % 12) as u8
+}
+
+/// At transposition 0 the original's own function answers, and elsewhere as it does for the note that 02's number has.
+#[test]
+fn a_transposed_pitch_is_the_originals_of_another_note() {
+    for c5 in [1, 2, 3, 440, 8363, 22_050, 65_535, 1 << 27, u32::MAX] {
+        for note in 0..=255 {
+            for transposition in SPAN {
+                let plain = frequency(note_of(number(note, transposition)), 0, c5);
+                let given = frequency(note, transposition, c5);
+                assert_eq!(given.to_bits(), plain.to_bits(), "{note:#x} by {transposition} at {c5}");
+            }
+        }
+    }
+}
+
+/// Every place where a row works out a pitch: a tune of transposed channels has the rows of one whose channels are not, with
+/// the notes of 02's numbers, but for the last notes. A last note 0 is none to a slide and a finetune, so it is left out.
+#[test]
+fn transposed_rows_are_the_originals_of_other_notes() {
+    let c5_speeds = [8363, 11_025, 16_000, 22_050, 32_000, 1 << 27];
+    let adlib = std::array::from_fn(|k| k % 3 == 0);
+    for shift in 0..49 {
+        let by = |k: usize| ((k + shift) % 49) as i8 - 24;
+        let other = |note: u8, k: usize| note_of(number(note, by(k)));
+        let usable = |note: u8, k| if other(note, k) == 0 { 0x40 } else { note };
+        let notes = (1..254).filter(|note| usize::from(*note) % 7 == shift % 7);
+        let notes: Vec<[u8; CHANNELS]> = notes.map(|note| std::array::from_fn(|k| usable(note, k))).collect();
+        let others = notes.iter().map(|row| std::array::from_fn(|k| other(row[k], k)));
+        let mut transposed = transposed::tune(&notes, c5_speeds, adlib);
+        transposed::transpose(&mut transposed, by);
+        let plain = transposed::tune(&others.collect::<Vec<_>>(), c5_speeds, adlib);
+        let rows = notes.len() * transposed::BLOCK;
+        let [ours, theirs] = [&transposed, &plain].map(|tune| heard(tune, rows));
+        assert_eq!(ours.len(), rows * RECORD_BYTES);
+        assert!(ours == theirs, "from {} on", by(0));
+    }
+}
+
+/// The records of so many rows, without last notes.
+fn heard(tune: &Tune, rows: usize) -> Vec<u8> {
+    let mut output = vec![0; rows * RECORD_BYTES];
+    Original::new(tune).rows_recorded(&open(tune).encode(), rows, &mut output);
+    for record in output.chunks_exact_mut(RECORD_BYTES) {
+        record[24..].chunks_exact_mut(16).for_each(|channel| channel[12] = 0);
+    }
+    output
+}
+
+/// Each byte in one channel: outside −24 to 24 it is refused as 10 by Open and as 11 by Section.
+#[test]
+fn a_transposition_is_taken_within_its_span() {
+    let tune = pitch::tune(&[pitch::note(0x40, 8363)]);
+    let state = open(&tune).encode();
+    for (byte, channel) in (0..=255).zip((0..CHANNELS).cycle()) {
+        let within = (-24..=24).contains(&(byte as i8));
+        let rule = |rule| if within { 0 } else { rule };
+        for mut call in [Call::open(&tune), Call::open_closed(&tune)] {
+            call.slots[3][TRANSPOSITIONS + channel] = byte;
+            assert_eq!(Case::of(call).answer.refusal(), rule(10), "{byte}");
+        }
+        let mut call = Call::section(&tune, state.clone(), 1, 0);
+        call.slots[3][HEAD_BYTES + CHANNEL_BYTES * channel + TRANSPOSITION] = byte;
+        assert_eq!(Case::of(call).answer.refusal(), rule(11), "{byte}");
     }
 }

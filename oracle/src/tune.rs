@@ -10,7 +10,9 @@ pub const CELL: usize = 5;
 pub const ROW_BYTES: usize = CHANNELS * CELL;
 pub const PATTERN_BYTES: usize = ROWS * ROW_BYTES;
 pub const SAMPLE_BYTES: usize = 20;
-pub const OPENING_BYTES: usize = 144;
+pub const OPENING_BYTES: usize = 176;
+/// Where opening values have the transposition of channel 0; the others follow.
+pub const TRANSPOSITIONS: usize = 144;
 pub const RECORD_BYTES: usize = 536;
 
 /// 01's worked example as a file.
@@ -28,6 +30,8 @@ pub struct ChannelOpening {
     pub muted: bool,
     pub right_bank: bool,
     pub adlib: bool,
+    /// In semitones.
+    pub transposition: i8,
 }
 
 #[derive(Clone, Debug, Default, PartialEq, Eq)]
@@ -109,6 +113,9 @@ impl Opening {
         for ch in &mut self.channels {
             layout.bytes([&mut ch.pan]);
             layout.flags([&mut ch.muted, &mut ch.right_bank, &mut ch.adlib]);
+        }
+        for ch in &mut self.channels {
+            layout.signed(&mut ch.transposition);
         }
     }
 }

@@ -1,5 +1,5 @@
 //! Writes a tune as an S3M file, as far as the format can say it: a channel that is both AdLib and on the right bank
-//! loses the bank, and what a sample's type forbids is lost.
+//! loses the bank, and what a sample's type forbids is lost, as are transpositions.
 
 use crate::generate::files::Draft;
 use crate::reader::{HEADER_BYTES, INSTRUMENT_BYTES, Lists};

@@ -9,6 +9,7 @@ mod refusals;
 mod rows;
 mod sections;
 mod strikes;
+mod transposed;
 
 use crate::calls::Function;
 use crate::list::Case;
@@ -22,7 +23,7 @@ use std::path::Path;
 const MOST_BYTES: u64 = 3_000_000;
 
 /// So many things are asked for: none may drop out because nothing looks for it.
-const ASKED: usize = 6_698;
+const ASKED: usize = 7_413;
 
 /// Where a thing must be seen, behind its name: anywhere, from states, or there and along walks from Open.
 type Needed = &'static [&'static str];
@@ -140,8 +141,18 @@ pub fn report(dir: &Path) -> Result<String, String> {
     Err(out)
 }
 
-/// The cases of those groups that show something which none before them did, and of the first so many.
+/// The cases of the first so many groups, and of those that the others do not make up for: each that shows something which
+/// none before it did is kept, and of these, from the last to the first, each that shows what none behind it does.
 pub fn telling(groups: impl Iterator<Item = Vec<Case>>, first: usize) -> Vec<Case> {
+    let mut kept = new(groups, first);
+    kept[first..].reverse();
+    let mut kept = new(kept.into_iter(), first);
+    kept[first..].reverse();
+    kept.into_iter().flatten().collect()
+}
+
+/// The first so many groups, and those that show something which none before them did.
+fn new(groups: impl Iterator<Item = Vec<Case>>, first: usize) -> Vec<Vec<Case>> {
     let (mut tally, mut lists) = (asked(), Lists::default());
     let is_telling = |(i, cases): &(usize, Vec<Case>)| {
         let before = tally.news;
@@ -150,8 +161,7 @@ pub fn telling(groups: impl Iterator<Item = Vec<Case>>, first: usize) -> Vec<Cas
         }
         *i < first || tally.news > before
     };
-    let kept = groups.enumerate().filter(is_telling);
-    kept.flat_map(|(_, cases)| cases).collect()
+    groups.enumerate().filter(is_telling).map(|(_, cases)| cases).collect()
 }
 
 /// A tally that asks for all that no look names.
@@ -164,6 +174,7 @@ fn asked() -> Tally {
         strikes::needs,
         closed::needs,
         head::needs,
+        transposed::needs,
     ] {
         needs(&mut tally);
     }
@@ -180,11 +191,17 @@ fn see(tally: &mut Tally, lists: &mut Lists, case: &Case) -> Result<(), String> 
     }
     if first > 0 {
         refusals::see(tally, case, &broken);
+        transposed::see_refused(tally, case, &broken);
         return match case.call.function {
             Function::HeadStep => lists.steps.refused(tally, case),
             _ if first == 14 => closed::see(tally, case),
             _ => Ok(()),
         };
+    }
+    let opens = matches!(case.call.function, Function::Open | Function::OpenClosed);
+    let reads = case.call.function == Function::Read && refusal == 0;
+    if opens || reads || case.call.function == Function::Section {
+        transposed::see_taken(tally, case)?;
     }
     let sections = &mut lists.sections;
     match case.call.function {

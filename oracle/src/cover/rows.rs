@@ -47,6 +47,11 @@ impl Seen<'_> {
         self.after.info
     }
 
+    /// Whether its channel is not transposed: then the original works its pitch out.
+    fn is_plain(&self) -> bool {
+        self.before.transposition == 0
+    }
+
     fn is_slide(&self) -> bool {
         matches!(self.cell.command, G_TONE_PORTA | L_PORT_VOL)
     }
@@ -57,7 +62,7 @@ impl Seen<'_> {
         fine.then(|| factors::index(self.cell.command, self.info()))
     }
 
-    fn sample(&self, tune: &Tune) -> Option<SampleBody> {
+    pub fn sample(&self, tune: &Tune) -> Option<SampleBody> {
         let number = usize::from(self.after.instrument);
         let known = (1..=tune.sample_count()).contains(&number);
         known.then(|| tune.sample(number - 1))
@@ -141,7 +146,7 @@ fn see_command(tally: &mut Tally, cell: &Seen) {
         S_EXTENDED => tally.note(format!("S{sub:X}x fresh")),
         _ => {}
     }
-    if command == S_EXTENDED && sub == 2 && cell.after.last_note != 0 {
+    if command == S_EXTENDED && sub == 2 && cell.after.last_note != 0 && cell.is_plain() {
         tally.among("finetune {}", 0..16, cell.info() & 15);
     }
 }
@@ -170,7 +175,9 @@ fn see_note(tally: &mut Tally, tune: &Tune, cell: &Seen) {
         (note < 0x8C && note & 15 > 11, "note beside the table"),
     ]);
     if let Some(sample) = sample.filter(|_| cell.struck || bare) {
-        see_period(tally, if bare { before.last_note } else { note }, sample.c5_speed);
+        if cell.is_plain() {
+            see_period(tally, if bare { before.last_note } else { note }, sample.c5_speed);
+        }
         if cell.struck {
             see_strike(tally, cell, &sample);
         }
@@ -193,11 +200,13 @@ fn see_period(tally: &mut Tally, note: u8, c5: u32) {
 }
 
 fn see_strike(tally: &mut Tally, cell: &Seen, sample: &SampleBody) {
-    let number = (cell.cell.note >> 4) * 12 + (cell.cell.note & 0x0F);
     let (by_offset, offset) = (cell.cell.command == O_SAMPLE_OFFSET, u32::from(cell.info()) * 256);
     let plain = cell.after.sample_pos == f64::from(offset);
     let cleared = cell.before.opl_voice.is_some() && cell.after.opl_voice.is_none();
-    tally.among("note number {}", 0..108, number.min(107));
+    if cell.is_plain() {
+        let number = (cell.cell.note >> 4) * 12 + (cell.cell.note & 0x0F);
+        tally.among("note number {}", 0..108, number.min(107));
+    }
     tally.both([
         (true, "note struck"),
         (by_offset && plain, "note struck by O, plain offset"),

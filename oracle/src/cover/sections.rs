@@ -1,7 +1,7 @@
 //! Sections: where they start and end, their rows, and the same rows in parts.
 
 use super::rows::{self, Seen};
-use super::{Tally, card};
+use super::{Tally, card, transposed};
 use crate::card::unit;
 use crate::list::Case;
 use crate::player::Channel;
@@ -124,7 +124,9 @@ fn see_row(tally: &mut Tally, tune: &Tune, [before, entered]: [&State; 2], recor
         struck: strikes >> i & 1 == 1,
     };
     if !held {
-        rows::see(tally, tune, &channels.map(seen).collect::<Vec<_>>(), [before, entered]);
+        let seen: Vec<Seen> = channels.map(seen).collect();
+        rows::see(tally, tune, &seen, [before, entered]);
+        transposed::see_row(tally, tune, &seen, entered.amiga_limits);
     }
 }
 
@@ -208,7 +210,7 @@ fn see_channel(tally: &mut Tally, ch: &Channel, part: &[u8]) {
         (part[19] > 1 || part[30] > 1, "flag above 1"),
         (part[31] > 3 && part[32] > 3, "waveform above 3"),
         (part[25] == 0 && part[26..30] != [0; 4], "absent delay with bytes"),
-        (part[45..48] != [0; 3], "spare bytes of a channel"),
+        (part[46..48] != [0; 2], "spare bytes of a channel"),
         (kept, "memory slots that nobody reads"),
     ]);
 }

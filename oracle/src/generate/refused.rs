@@ -7,13 +7,21 @@ use crate::card::unit;
 use crate::list::ROOMS;
 use crate::random::Random;
 use crate::rules::MOST_START;
-use crate::tune::{OPENING_BYTES, PATTERN_BYTES, RECORD_BYTES, SAMPLE_BYTES, Tune, WORKED};
+use crate::state::TRANSPOSITION;
+use crate::tune::{OPENING_BYTES, PATTERN_BYTES, RECORD_BYTES, SAMPLE_BYTES, TRANSPOSITIONS, Tune, WORKED};
 
 /// What the worked example needs.
 const LENT: [usize; 3] = [1, SAMPLE_BYTES, PATTERN_BYTES];
 const NANS: [u32; 4] = [0x7F80_0001, 0x7FC0_0000, 0xFF80_0001, 0xFFFF_FFFF];
-/// Lengths that rule 9 refuses, and that of opening values.
-const LENGTHS: [usize; 5] = [0, 256, 100 * SAMPLE_BYTES, 101 * PATTERN_BYTES, OPENING_BYTES];
+/// Lengths that rule 9 refuses, that of opening values, and theirs without transpositions.
+const LENGTHS: [usize; 6] = [
+    0,
+    256,
+    100 * SAMPLE_BYTES,
+    101 * PATTERN_BYTES,
+    OPENING_BYTES,
+    TRANSPOSITIONS,
+];
 
 /// A call on a tune, now and then with another length of a slot or two.
 pub fn call(random: &mut Random, tune: &Tune) -> Call {
@@ -60,16 +68,23 @@ fn open(random: &mut Random, tune: &Tune) -> Call {
 /// Opening values that may break rule 10.
 fn broken_opening(random: &mut Random) -> Vec<u8> {
     let mut opening = opening(random);
-    match random.below(10) {
+    match random.below(12) {
         0 => opening[0] = 0,
         1 => opening[1] = random.between(0, 31),
         2 => opening[2] = random.between(65, 255),
         3 => opening[16 + 4 * random.index(32)] = random.between(16, 255),
         4 => opening[8..12].fill(0),
         5 => opening[8..12].copy_from_slice(&random.one(&[100_001, u32::MAX]).to_le_bytes()),
+        6 => opening[TRANSPOSITIONS + random.index(32)] = transposition(random),
         _ => {}
     }
     opening
+}
+
+/// One outside the span, as a byte.
+fn transposition(random: &mut Random) -> u8 {
+    let any = random.between(25, 231);
+    random.one(&[any, 25, 127, 128, 231])
 }
 
 /// Section with a state and a size that may break rules 11 and 12.
@@ -87,7 +102,7 @@ fn break_state(random: &mut Random, state: &mut [u8]) {
     let (unit, any) = (unit(state[11]) as u16, random.number() as u16);
     let mut put = |at: usize, bytes: &[u8]| state[at..at + bytes.len()].copy_from_slice(bytes);
     let channel = 64 + 80 * random.index(32);
-    match random.below(22) {
+    match random.below(24) {
         0 => put(1, &[random.between(64, 255)]),
         1 => put(6, &[random.between(64, 255)]),
         2 => put(10, &[0]),
@@ -107,6 +122,7 @@ fn break_state(random: &mut Random, state: &mut [u8]) {
             put(16, &random.one(&[1, 100_000u32]).to_le_bytes());
             put(24, &MOST_START.to_le_bytes());
         }
+        14 | 15 => put(channel + TRANSPOSITION, &[transposition(random)]),
         _ => {}
     }
 }

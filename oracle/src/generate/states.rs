@@ -1,12 +1,12 @@
 //! Odd states: bytes that rule 11 accepts, most of them any, with nothing waiting and not ended.
 
 use super::cells::special;
-use super::tunes::rate;
+use super::tunes::{rate, transpositions};
 use super::{noise, unset};
 use crate::card::unit;
 use crate::random::Random;
 use crate::rules::MOST_START;
-use crate::state::{CHANNEL_BYTES, HEAD_BYTES, KEYED, NO_VOICE, RELEASED, STATE_BYTES, State};
+use crate::state::{CHANNEL_BYTES, HEAD_BYTES, KEYED, NO_VOICE, RELEASED, STATE_BYTES, State, TRANSPOSITION};
 use crate::tune::Tune;
 
 pub fn odd_state(random: &mut Random, tune: &Tune) -> State {
@@ -19,8 +19,10 @@ pub fn odd_bytes(random: &mut Random, tune: &Tune) -> Vec<u8> {
     let (head, channels) = out.split_at_mut(HEAD_BYTES);
     put_path(random, tune, head);
     put_card(random, head);
-    for part in channels.chunks_exact_mut(CHANNEL_BYTES) {
+    let transpositions = transpositions(random.apart());
+    for (part, transposition) in channels.chunks_exact_mut(CHANNEL_BYTES).zip(transpositions) {
         put_channel(random, tune.sample_count() as u8, part);
+        part[TRANSPOSITION] = transposition;
     }
     out
 }

@@ -2,7 +2,7 @@
 
 use super::{cells, noise, unset};
 use crate::random::Random;
-use crate::tune::{OPENING_BYTES, Opening, SAMPLE_BYTES, Tune};
+use crate::tune::{CHANNELS, Opening, SAMPLE_BYTES, TRANSPOSITIONS, Tune};
 
 /// What a tune is made for.
 #[derive(Clone, Copy, PartialEq, Eq)]
@@ -126,7 +126,7 @@ fn c5_speed(random: &mut Random) -> u32 {
 
 /// Opening values said in an unusual way: flags above 1, noise in bytes that are not read.
 pub fn opening(random: &mut Random) -> Vec<u8> {
-    let mut out = noise(random, OPENING_BYTES);
+    let mut out = noise(random, TRANSPOSITIONS);
     out[0] = random.weighted(&[(4, 6), (2, 3), (2, out[0].max(1)), (1, 1), (1, 255)]);
     out[1] = random.weighted(&[(4, 125), (3, out[1].max(32)), (1, 32), (1, 255)]);
     out[2] = random.weighted(&[(3, 64), (2, out[2] % 65), (1, 0)]);
@@ -136,7 +136,20 @@ pub fn opening(random: &mut Random) -> Vec<u8> {
         part[0] = random.weighted(&[(2, 3), (2, 12), (1, 8), (3, part[0] % 16)]);
         unset(random, part, &[(1, 80), (2, 60), (3, 70)]);
     }
+    out.extend(transpositions(random.apart()));
     out
+}
+
+/// A byte for each channel: half of the time all are 0, where the original is compared. Drawn apart, they leave the tunes of
+/// a seed, which bench/ times, as they are.
+pub fn transpositions(mut random: Random) -> [u8; CHANNELS] {
+    if random.chance(50) {
+        return [0; CHANNELS];
+    }
+    [(); CHANNELS].map(|()| {
+        let any = random.between(0, 48) as i8 - 24;
+        random.weighted(&[(6, any), (1, -24), (1, 24), (2, 0)]) as u8
+    })
 }
 
 pub fn rate(random: &mut Random) -> u32 {
