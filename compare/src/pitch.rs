@@ -1,8 +1,10 @@
-//! Pitch at scale, in rows of 32 channels: notes at c5 speeds, sample offsets, Amiga limits, fine slides, finetunes.
+//! Pitch at scale, in rows of 32 channels: notes at c5 speeds, sample offsets, Amiga limits, fine slides, finetunes; and
+//! every note by every transposition, in each place where a row works out a pitch.
 
 use crate::both::Both;
 use oracle::calls::Call;
 use oracle::generate::pitch::{self, Placed};
+use oracle::generate::transposed;
 use oracle::player::PERIOD_TABLE;
 use oracle::player::bridge::open;
 use oracle::player::cmd::*;
@@ -20,15 +22,18 @@ pub fn compare(random: &mut Random, rows: u64) -> Result<String, String> {
     let both = &mut Both::default();
     let part = |of: u64| (of * rows / FULL) as usize;
     let notes = notes(both, random, part(C5_A_NOTE).div_ceil(SAMPLES))? + bare(both, random, part(2 * C5_A_NOTE))?;
-    let periods = periods(both, FULL.div_ceil(rows.clamp(1, FULL)) as usize)?;
+    let step = FULL.div_ceil(rows.clamp(1, FULL)) as usize;
+    let periods = periods(both, step)?;
     let rows = part(OTHERS).div_ceil(CHANNELS);
     offsets(both, random, rows)?;
     slides(both, random, rows, true)?;
     slides(both, random, rows, false)?;
     finetunes(both, random)?;
     let others = rows * CHANNELS;
+    let transposed = transposed_notes(both, random, step)?;
     Ok(format!(
-        "{notes} notes, {periods} ends of periods, {others} offsets, limits and slides each, 16 finetunes"
+        "{notes} notes, {periods} ends of periods, {others} offsets, limits and slides each, 16 finetunes; \
+         {transposed} transposed notes, each struck, slid to with and without it, and tuned"
     ))
 }
 
@@ -152,4 +157,23 @@ fn finetunes(both: &mut Both, random: &mut Random) -> Result<(), String> {
         both.same(&Call::section(&tune, state.encode(), 1, 0))?;
     }
     Ok(())
+}
+
+/// Every note by every transposition, or every so many of these, at random c5 speeds; a third of the channels is AdLib.
+fn transposed_notes(both: &mut Both, random: &mut Random, step: usize) -> Result<usize, String> {
+    const SPAN: usize = 49;
+    let notes: Vec<[u8; CHANNELS]> = (0..=253).map(|note| [note; CHANNELS]).collect();
+    let mut count = 0;
+    for first in (0..SPAN).step_by(step.min(SPAN - 1)) {
+        let c5_speeds = [(); 2 * transposed::SAMPLES].map(|()| pitch::number(random));
+        let mut tune = transposed::tune(&notes, c5_speeds, std::array::from_fn(|k| k % 3 == 0));
+        transposed::transpose(&mut tune, |k| ((first + k) % SPAN) as i8 - 24);
+        tune.opening.amiga_limits = random.chance(20);
+        let [.., opened] = both.same(&Call::open(&tune))?.slots;
+        let rows = notes.len() * transposed::BLOCK;
+        both.same(&Call::section(&tune, opened, rows as u32, 0))
+            .map_err(|why| format!("transpositions from {first} on: {why}"))?;
+        count += notes.len() * CHANNELS;
+    }
+    Ok(count)
 }

@@ -5,7 +5,7 @@ use oracle::calls::Call;
 use oracle::generate;
 use oracle::random::Random;
 use oracle::rules::MOST_START;
-use oracle::state::State;
+use oracle::state::{CHANNEL_BYTES, HEAD_BYTES, State, TRANSPOSITION};
 use oracle::tune::{PATTERN_BYTES, Tune, le32, le64};
 
 /// States of a tune, and sections from each.
@@ -22,6 +22,9 @@ struct Told {
     sections: u64,
     rows: u64,
     strikes: u64,
+    /// Rows without a transposed channel, where the judge is the original alone; strikes of transposed channels.
+    plain: u64,
+    transposed: u64,
     ended: u64,
 }
 
@@ -33,8 +36,9 @@ pub fn compare(seed: u64, rows: u64) -> Result<String, String> {
         number += 1;
     }
     Ok(format!(
-        "{} rows of {} tunes in {} sections, {} of them at an end, with {} strikes",
-        told.rows, told.tunes, told.sections, told.ended, told.strikes
+        "{} rows of {} tunes in {} sections, {} of them at an end, with {} strikes; {} rows at transposition 0, {} strikes \
+         of transposed channels",
+        told.rows, told.tunes, told.sections, told.ended, told.strikes, told.plain, told.transposed
     ))
 }
 
@@ -90,13 +94,22 @@ fn walk(both: &mut Both, random: &mut Random, tune: &Tune, mut state: Vec<u8>, t
 /// The state behind a section.
 fn section(both: &mut Both, call: &Call, told: &mut Told) -> Result<Vec<u8>, String> {
     let answer = both.section(call)?;
+    let transposed = transposed(&call.slots[3]);
     told.sections += 1;
-    told.rows += answer.records().count() as u64;
-    told.strikes += answer
-        .records()
-        .map(|record| u64::from(le32(record, 16).count_ones()))
-        .sum::<u64>();
+    for record in answer.records() {
+        let mask = le32(record, 16);
+        told.rows += 1;
+        told.plain += u64::from(transposed == 0);
+        told.strikes += u64::from(mask.count_ones());
+        told.transposed += u64::from((mask & transposed).count_ones());
+    }
     told.ended += u64::from(answer.number >> 16);
     let [_, _, _, state, _] = answer.slots;
     Ok(state)
+}
+
+/// A bit for each channel of a state that is transposed.
+fn transposed(state: &[u8]) -> u32 {
+    let channels = state[HEAD_BYTES..].chunks_exact(CHANNEL_BYTES).enumerate();
+    channels.map(|(k, part)| u32::from(part[TRANSPOSITION] != 0) << k).sum()
 }
