@@ -40,11 +40,11 @@
  *     7        an instrument's 80 bytes run past the file
  *     8        a packed pattern runs past the file before its 64th row ends
  *     9        the tables are not 1 to 255 orders, 0 to 100 patterns and 0 to 99 samples
- *     10       opening speed, tempo or volume is as in 5, a pan is above 15, or the rate is 0 or
- *              above 100,000
+ *     10       opening speed, tempo or volume is as in 5, a pan is above 15, the rate is 0 or above
+ *              100,000, or a transposition is below -24 or above 24
  *     11       the state has a row or loop start above 63, speed 0, tempo below 32, a start above
- *              2^62, a rate as in 10, a remainder of 2 * tempo or more, or a frequency or target
- *              that is not a number
+ *              2^62, a rate or transposition as in 10, a remainder of 2 * tempo or more, or a
+ *              frequency or target that is not a number
  *     12       n is above 65,535, or the output shorter than 536 * n bytes
  *     13       the record is not 536 bytes, or the output has under 32 (strikes) or 64 (line)
  *     14       the tune is not closed, as lomqashe_is_closed() says it
@@ -74,7 +74,7 @@ extern "C" {
 #define LOMQASHE_WRONG_LENGTH 255
 
 #define LOMQASHE_COUNTS_SIZE 12
-#define LOMQASHE_OPENING_SIZE 144
+#define LOMQASHE_OPENING_SIZE 176
 #define LOMQASHE_STATE_SIZE 2624
 
 /* The tables: an order is one byte; these are the bytes of a sample and of a pattern. */
@@ -117,11 +117,12 @@ uint32_t lomqashe_measure(const uint8_t *file, size_t file_size,
  *              c5 speed
  *     pattern  64 rows of 32 cells: note, instrument, volume, command, info
  *
- * opening is 144 bytes:
+ * opening is 176 bytes:
  *
  *     0 speed, 1 tempo, 2 global volume, 3 Amiga limits (flag), 4 fast slides (flag), 5-7 spare,
  *     8-11 rate, 12-15 spare; then for each of 32 channels pan, muted (flag), right bank (flag),
- *     AdLib (flag)
+ *     AdLib (flag); 144-175 each channel's transposition in semitones (a signed byte), which is
+ *     written as 0
  *
  * Gives 0. Refuses with 255 (opening) and 1 to 8.
  */
@@ -154,13 +155,19 @@ uint32_t lomqashe_read(const uint8_t *file, size_t file_size, uint32_t rate,
  *     the low two bits), 33 retrig counter, 34 tremor on, 35 tremor off, 36 stored volume,
  *     37 vibrato goes on over a new note (flag), 38 tremolo likewise (flag), 39 muted (flag),
  *     40 frozen (flag), 41 right bank (flag), 42 AdLib (flag),
- *     43 AdLib voice (0 none, 1 keyed, 2 released), 44 voice global volume, 45-47 spare,
+ *     43 AdLib voice (0 none, 1 keyed, 2 released), 44 voice global volume,
+ *     45 transposition (a signed byte), 46-47 spare,
  *     48-79 effect memory: at 48 + k the last info that was not 0 of command k (A is 1), for D to
  *     R and W to Z. H's is U's too; that of S is in the head; A, B, C, T and V have none. The bytes
  *     that are no command's are kept as they are
  *
  * What is absent is written as 0. The bits of any NaN are read as one NaN, which is written as
  * 0x7fc00000 or 0x7ff8000000000000.
+ *
+ * A channel keeps its transposition, and every pitch follows it: that of a note struck, of a slide's
+ * target, with a note and without, and of S2x. A note byte has its octave in the high four bits and
+ * its semitone in the low four. octave * 12 + semitone + transposition, below 0 taken as 0 and above
+ * 107 as 107, is the number of the note whose period counts. The last note stays the cell's byte.
  *
  * The remainder is how much further than the start the rows so far go, in units of 1/(2 * tempo)
  * micrometre; a tune starts with 0. lomqashe_section() says how it goes on.

@@ -221,6 +221,7 @@ pub fn head_step(registers: &mut [u8], command: u32, record: &[u8]) -> Result<u3
 #[cfg(test)]
 mod tests {
     use super::*;
+    use crate::opening::OPENING_BYTES;
 
     const WORKED: &[u8] = include_bytes!("../../oracle/examples/worked.s3m");
     const UNTOUCHED: u8 = 0xA5;
@@ -242,7 +243,7 @@ mod tests {
         for length in [0, 11, 13] {
             wrong(length, |counts| measure(WORKED, counts));
         }
-        for length in [0, 143, 145] {
+        for length in [0, 144, 175, 177] {
             wrong(length, |opening| {
                 read(WORKED, 60_000, &mut [0], &mut [0; 20], &mut [0; 10_240], opening)
             });
@@ -251,8 +252,10 @@ mod tests {
             wrong(2_624, |state| open_closed(&orders, &[], &[], &opening, state));
         }
         for length in [0, 2_623, 2_625] {
-            wrong(length, |state| open(&orders, &[], &[], &[0; 144], state));
-            wrong(length, |state| open_closed(&orders, &[], &[], &[0; 144], state));
+            wrong(length, |state| open(&orders, &[], &[], &[0; OPENING_BYTES], state));
+            wrong(length, |state| {
+                open_closed(&orders, &[], &[], &[0; OPENING_BYTES], state)
+            });
             wrong(length, |state| section(&orders, &[], &[], state, 0, &mut []));
         }
     }
@@ -260,9 +263,9 @@ mod tests {
     #[test]
     fn a_wrong_length_is_told_before_any_rule() {
         wrong(11, |counts| measure(b"", counts));
-        wrong(143, |opening| read(b"", 0, &mut [], &mut [], &mut [], opening));
-        wrong(2_623, |state| open(&[], &[], &[], &[0; 144], state));
-        wrong(2_623, |state| open_closed(&[], &[], &[], &[0; 144], state));
+        wrong(144, |opening| read(b"", 0, &mut [], &mut [], &mut [], opening));
+        wrong(2_623, |state| open(&[], &[], &[], &[0; OPENING_BYTES], state));
+        wrong(2_623, |state| open_closed(&[], &[], &[], &[0; OPENING_BYTES], state));
         wrong(2_623, |state| section(&[], &[], &[], state, u32::MAX, &mut []));
     }
 
@@ -270,7 +273,7 @@ mod tests {
     #[test]
     fn a_closed_tune_is_asked_for_last_and_nothing_is_written() {
         let mut cells = [255, 0, 255, 0, 0].repeat(2_048);
-        let good: Vec<u8> = [&[6, 125, 64, 0, 0, 0, 0, 0, 1][..], &[0; 135]].concat();
+        let good: Vec<u8> = [&[6, 125, 64, 0, 0, 0, 0, 0, 1][..], &[0; OPENING_BYTES - 9]].concat();
         let refused = |orders: &[u8], cells: &[u8], opening: &[u8]| {
             let mut state = [UNTOUCHED; 2_624];
             let rule = number(open_closed(orders, cells, &[], opening, &mut state));
@@ -282,8 +285,8 @@ mod tests {
         cells[3] = 19;
         assert_eq!(is_closed(&[0], &cells, &[]), Ok(0));
         assert_eq!(refused(&[0], &cells, &good), 14);
-        assert_eq!(refused(&[0], &cells, &[0; 144]), 10);
-        assert_eq!(refused(&[], &cells, &[0; 144]), 9);
+        assert_eq!(refused(&[0], &cells, &[0; OPENING_BYTES]), 10);
+        assert_eq!(refused(&[], &cells, &[0; OPENING_BYTES]), 9);
         for (orders, cells, samples) in [
             (0, 10_240, 0),
             (256, 0, 0),
@@ -301,7 +304,7 @@ mod tests {
     #[test]
     fn tables_of_other_sizes_are_rule_6() {
         let mut tables = [vec![UNTOUCHED; 2], vec![UNTOUCHED; 20], vec![UNTOUCHED; 10_240]];
-        let mut opening = [UNTOUCHED; 144];
+        let mut opening = [UNTOUCHED; OPENING_BYTES];
         let [orders, samples, cells] = &mut tables;
         assert_eq!(number(read(WORKED, 60_000, orders, samples, cells, &mut opening)), 6);
         assert!(tables.iter().flatten().chain(&opening).all(|&byte| byte == UNTOUCHED));

@@ -4,9 +4,22 @@ use crate::CHANNELS;
 use crate::bytes::u32_at;
 
 /// The bytes of the opening values, as they cross to the library.
-pub(crate) const OPENING_BYTES: usize = 144;
+pub(crate) const OPENING_BYTES: usize = 176;
+/// Where they have the transpositions.
+const TRANSPOSITIONS: usize = 144;
 
 /// What a channel opens with.
+///
+/// ```
+/// let mut tune = lomqashe::Tune::read(include_bytes!("../../oracle/examples/worked.s3m"), 60_000)?;
+/// // The first row strikes middle C on channel 0: an octave up its frequency is twice as high.
+/// tune.opening.channels[0].transposition = 12;
+/// let first = tune.rows(1)?.next().expect("it has rows").channels()[0];
+/// assert_eq!((first.frequency, first.last_note), (2.0 * 8363.0, 0x40));
+/// tune.opening.channels[0].transposition = 25;
+/// assert_eq!(tune.open().unwrap_err().number(), 10);
+/// # Ok::<(), lomqashe::Refusal>(())
+/// ```
 #[derive(Clone, Copy, Debug, PartialEq, Eq, Hash)]
 pub struct ChannelOpening {
     /// 0 (left) to 15 (right).
@@ -17,16 +30,20 @@ pub struct ChannelOpening {
     pub right_bank: bool,
     /// Whether the channel is an AdLib one.
     pub adlib: bool,
+    /// Semitones by which the channel's notes are moved, −24 to 24; a file has 0. Every pitch follows it: a note's number,
+    /// octave × 12 + semitone, plus the transposition is cut to 0 through 107. The last note of a record stays the cell's.
+    pub transposition: i8,
 }
 
 impl Default for ChannelOpening {
-    /// A sounding PCM channel of the left bank, panned to the middle.
+    /// A sounding PCM channel of the left bank, panned to the middle, as a C organ is tuned.
     fn default() -> ChannelOpening {
         ChannelOpening {
             pan: 8,
             muted: false,
             right_bank: false,
             adlib: false,
+            transposition: 0,
         }
     }
 }
@@ -78,14 +95,18 @@ impl Opening {
         out[3] = self.amiga_limits.into();
         out[4] = self.fast_slides.into();
         out[8..12].copy_from_slice(&self.rate.to_le_bytes());
-        for (channel, part) in self.channels.iter().zip(out[16..].chunks_exact_mut(4)) {
+        let (parts, transpositions) = out[16..].split_at_mut(TRANSPOSITIONS - 16);
+        let parts = parts.chunks_exact_mut(4).zip(transpositions);
+        for (channel, (part, byte)) in self.channels.iter().zip(parts) {
             let ChannelOpening {
                 pan,
                 muted,
                 right_bank,
                 adlib,
+                transposition,
             } = *channel;
             part.copy_from_slice(&[pan, muted.into(), right_bank.into(), adlib.into()]);
+            *byte = transposition as u8;
         }
         out
     }
@@ -100,12 +121,15 @@ impl Opening {
             fast_slides: bytes[4] != 0,
             channels: Default::default(),
         };
-        for (channel, part) in out.channels.iter_mut().zip(bytes[16..].chunks_exact(4)) {
+        let (parts, transpositions) = bytes[16..].split_at(TRANSPOSITIONS - 16);
+        let parts = parts.chunks_exact(4).zip(transpositions);
+        for (channel, (part, &byte)) in out.channels.iter_mut().zip(parts) {
             *channel = ChannelOpening {
                 pan: part[0],
                 muted: part[1] != 0,
                 right_bank: part[2] != 0,
                 adlib: part[3] != 0,
+                transposition: byte as i8,
             };
         }
         out

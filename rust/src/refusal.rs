@@ -39,11 +39,14 @@ impl Refusal {
             7 => "an instrument's 80 bytes run past the file",
             8 => "a packed pattern runs past the file before its 64th row ends",
             9 => "the tables do not have the sizes of a tune",
-            10 => "an opening value is out of range: speed, tempo, volume, a pan above 15, or the card rate",
+            10 => {
+                "an opening value is out of range: speed, tempo, volume, a pan above 15, the card rate, or a transposition \
+                 outside -24 to 24"
+            }
             11 => {
                 "the state is none that a section can go on from: its row or loop start is above 63, its speed 0, its \
                  tempo below 32, its start above 2^62, its card rate out of range, its remainder 2 * tempo or more, \
-                 or a frequency or target is not a number"
+                 a frequency or target is not a number, or a transposition outside -24 to 24"
             }
             12 => "more than 65,535 rows are asked for, or the output is too short for them",
             13 => "the record is not 536 bytes, or the output is too short for its strikes or line",

@@ -1,7 +1,7 @@
 //! The state between two sections.
 
-use crate::Refusal;
 use crate::bytes::{u16_at, u64_at};
+use crate::{CHANNELS, Refusal};
 use std::fmt;
 
 /// Where a tune stands between two sections, with all that its next row depends on. It is a string of bytes that can be
@@ -90,6 +90,21 @@ impl State {
     /// ```
     pub fn remainder(&self) -> u16 {
         u16_at(&self.0[..], 20)
+    }
+
+    /// The transposition of each channel, in semitones, as the tune was opened with: no row changes it. No section goes on
+    /// from a state that has one outside −24 to 24.
+    ///
+    /// ```
+    /// let mut tune = lomqashe::Tune::read(include_bytes!("../../oracle/examples/worked.s3m"), 60_000)?;
+    /// tune.opening.channels[31].transposition = -5;
+    /// let mut state = tune.open()?;
+    /// tune.section(&mut state, 3, &mut [0; 3 * lomqashe::RECORD_BYTES])?;
+    /// assert_eq!(state.transpositions()[30..], [0, -5]);
+    /// # Ok::<(), lomqashe::Refusal>(())
+    /// ```
+    pub fn transpositions(&self) -> [i8; CHANNELS] {
+        std::array::from_fn(|k| self.0[64 + 80 * k + 45] as i8)
     }
 }
 

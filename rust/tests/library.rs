@@ -76,8 +76,8 @@ fn states_and_opening_values_out_of_range_are_refused() {
     let tune = worked();
     let opened = tune.open().unwrap();
     // Row 64, loop start 64, speed 0, tempo 31, rate 0 and 100,001, remainder 250 and 256 at tempo 125, start above 2^62, a
-    // frequency and a target that are no number.
-    let edits: [(usize, &[u8]); 11] = [
+    // frequency and a target that are no number, transpositions 25 and -25.
+    let edits: [(usize, &[u8]); 13] = [
         (1, &[64]),
         (6, &[64]),
         (10, &[0]),
@@ -89,6 +89,8 @@ fn states_and_opening_values_out_of_range_are_refused() {
         (24, &[1, 0, 0, 0, 0, 0, 0, 0x40]),
         (64, &[1, 0, 0x80, 0x7F]),
         (64 + 31 * 80 + 4, &[0, 0, 0xC0, 0xFF]),
+        (64 + 45, &[25]),
+        (64 + 31 * 80 + 45, &[231]),
     ];
     for (at, new) in edits {
         let mut bytes = *opened.as_bytes();

@@ -1,7 +1,9 @@
 //! The words of a command line.
 
 use super::sheet::Form;
+use lomqashe::CHANNELS;
 use std::ffi::{OsStr, OsString};
+use std::ops::Range;
 use std::os::unix::ffi::OsStrExt;
 use std::path::PathBuf;
 
@@ -15,6 +17,8 @@ pub struct Args {
     /// None is standard input.
     pub file: Option<PathBuf>,
     pub rate: Option<u32>,
+    /// Those of all channels, where one is named; Open refuses what is out of the span.
+    pub transpositions: Option<[i8; CHANNELS]>,
     pub rows: u64,
     pub sections: u32,
     pub form: Form,
@@ -31,6 +35,7 @@ impl Default for Args {
         Args {
             file: None,
             rate: None,
+            transpositions: None,
             rows: 10_000,
             sections: 50,
             form: Form::Rows,
@@ -84,6 +89,22 @@ impl Word {
         }
     }
 
+    /// Channels and their transposition: N for all, K:N for channel K. A whole number that no `i8` holds becomes the nearest
+    /// one, which is out of the span as well.
+    fn transposition(&self, words: &mut impl Iterator<Item = OsString>) -> Result<(Range<usize>, i8), String> {
+        let value = self.value(words)?;
+        let text = value.to_string_lossy();
+        let (channels, by) = match text.split_once(':') {
+            Some((channel, by)) => (channel_of(channel), by),
+            None => (Some(0..CHANNELS), &*text),
+        };
+        channels.zip(semitones(by)).ok_or(format!(
+            "{} takes whole semitones, or a channel from 0 to {} and semitones as 3:-5, not {text}",
+            self.name,
+            CHANNELS - 1
+        ))
+    }
+
     /// A file's name; standard output has the sheet, and standard input the tune.
     fn path(&self, words: &mut impl Iterator<Item = OsString>) -> Result<Option<PathBuf>, String> {
         let value = self.value(words)?;
@@ -92,6 +113,20 @@ impl Word {
         }
         Ok(Some(value.into()))
     }
+}
+
+fn channel_of(text: &str) -> Option<Range<usize>> {
+    let channel = text.parse().ok().filter(|&channel| channel < CHANNELS)?;
+    Some(channel..channel + 1)
+}
+
+fn semitones(text: &str) -> Option<i8> {
+    let digits = text.strip_prefix(['-', '+']).unwrap_or(text);
+    if digits.is_empty() || !digits.bytes().all(|digit| digit.is_ascii_digit()) {
+        return None;
+    }
+    let nearest = if text.starts_with('-') { i8::MIN } else { i8::MAX };
+    Some(text.parse().unwrap_or(nearest))
 }
 
 /// The wish of a command line, or what is wrong with it. An option's value stands behind it or behind its `=`.
@@ -121,6 +156,9 @@ pub fn parse(mut words: impl Iterator<Item = OsString>) -> Result<Wish, String> 
     if args.from.is_some() && args.rate.is_some() {
         return Err("--rate does not go with --from: a state has its card's rate".into());
     }
+    if args.from.is_some() && args.transpositions.is_some() {
+        return Err("--transpose does not go with --from: a state has its channels' transpositions".into());
+    }
     args.file = files.pop().filter(|file| file.as_os_str() != "-");
     Ok(Wish::Sheet(args))
 }
@@ -138,6 +176,11 @@ fn option(args: &mut Args, word: &Word, words: &mut impl Iterator<Item = OsStrin
             args.closed = true;
         }
         "--rate" => args.rate = Some(word.number(words, 1, 100_000)? as u32),
+        "--transpose" => {
+            let (channels, by) = word.transposition(words)?;
+            let all = args.transpositions.get_or_insert_default();
+            all[channels].fill(by);
+        }
         "--rows" => args.rows = word.number(words, 0, u64::from(u32::MAX))?,
         "--sections" => args.sections = word.number(words, 1, 65_535)? as u32,
         "--svg" => args.svg = word.path(words)?,

@@ -26,6 +26,8 @@ usage: lomqashe [OPTIONS] [FILE]
 Reads standard input where no file is named, or where it is -.
 
   --rate N        the card's micrometres a second, 1 to 100000 (60000)
+  --transpose N   move the notes of all channels by N semitones, -24 to 24 (0), or of channel K, 0 to 31, with K:N; where
+                  several say it of a channel the last counts
   --rows N        stop behind so many rows, and say `more` (10000)
   --once          stop before the rows of an endless tune come again, and say `repeats`
   --closed        take only a closed tune, which is sure to end; another is refused, and what breaks it is named
@@ -183,7 +185,15 @@ fn print_rows(
 
 /// A tune that goes on from a saved state is asked to be closed too.
 fn run_asked_for(file: &[u8], saved: Option<Saved>, args: &Args) -> Result<Run, Refused> {
-    let tune = Tune::read(file, args.rate.unwrap_or(RATE))?;
+    let mut tune = Tune::read(file, args.rate.unwrap_or(RATE))?;
+    for (channel, by) in tune
+        .opening
+        .channels
+        .iter_mut()
+        .zip(args.transpositions.unwrap_or_default())
+    {
+        channel.transposition = by;
+    }
     let opened = if args.closed { open_closed(&tune)? } else { tune.open()? };
     let (state, before) = match saved {
         Some(Saved { rows, state }) => (state, rows),
