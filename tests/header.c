@@ -1,6 +1,6 @@
 /* The header and the archive alone. Prints the sheet of the S3M file on standard input. With the argument `null` it tries
- * NULL with length 0 everywhere, with `strikes` their order, with `closed` whether that file is closed, with `head` the
- * punch head on its rows, with `stack` how much stack the calls on that file take. */
+ * NULL with length 0 everywhere, with `strikes` their order, with `closed` whether that file is closed, with `transposed`
+ * its pitch an octave up, with `head` the punch head on its rows, with `stack` how much stack the calls on that file take. */
 #define _GNU_SOURCE
 #include "lomqashe.h"
 #include <math.h>
@@ -236,6 +236,48 @@ static void closed_tunes(void)
     give_tables_back();
 }
 
+/* The note of channel 0 on the file's first row, by a transposition. */
+static void expect_pitch(uint8_t transposition, float expected)
+{
+    float frequency;
+    opening[144] = transposition;
+    open_tune();
+    check(answer == 0 && state[64 + 45] == transposition, "open of a transposed channel");
+    section();
+    memcpy(&frequency, records + 24, 4);
+    check(LOMQASHE_REFUSAL(answer) == 0 && frequency == expected, "pitch of a transposed channel");
+    check(records[24 + 12] == 0x40 && state[64 + 45] == transposition, "last note of a transposed channel");
+}
+
+/* Middle C at c5 8363 in channel 0; others are not transposed. Outside -24 to 24 it is refused, and nothing is written. */
+static void transposed(void)
+{
+    static const uint8_t outside[] = {25, 127, 128, 231}, none[32];
+    uint8_t before[LOMQASHE_STATE_SIZE];
+    measure();
+    lend_tables();
+    read_tables();
+    check(answer == 0 && memcmp(opening + 144, none, sizeof none) == 0, "transpositions of a file");
+    expect_pitch(0, 8363);
+    expect_pitch(12, 16726);
+    expect_pitch(256 - 12, 4181.5f);
+    open_tune();
+    for (size_t i = 0; i < sizeof outside; i++) {
+        memcpy(before, state, sizeof state);
+        opening[144 + 31] = outside[i];
+        open_tune();
+        expect_refusal(answer, 10, "open of a transposition out of the span");
+        open_closed();
+        expect_refusal(answer, 10, "open_closed of a transposition out of the span");
+        check(memcmp(before, state, sizeof state) == 0, "the state where open refuses");
+        state[64 + 31 * 80 + 45] = outside[i];
+        section();
+        expect_refusal(answer, 11, "section of a transposition out of the span");
+        state[64 + 31 * 80 + 45] = 0;
+    }
+    give_tables_back();
+}
+
 /* The registers are these: command, status, and mask and start of a record. */
 static void expect_head(uint8_t command, uint8_t status, const uint8_t *record, const char *what)
 {
@@ -350,6 +392,8 @@ int main(int argc, char **argv)
         strikes_in_order();
     } else if (strcmp(argv[1], "closed") == 0) {
         closed_tunes();
+    } else if (strcmp(argv[1], "transposed") == 0) {
+        transposed();
     } else if (strcmp(argv[1], "head") == 0) {
         punch_head();
     } else if (strcmp(argv[1], "stack") == 0) {

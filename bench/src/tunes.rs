@@ -75,6 +75,8 @@ impl Kind {
         tune.opening.fast_slides = self.fast_slides;
         for channel in &mut tune.opening.channels {
             channel.adlib = self.adlib;
+            // As a file has it.
+            channel.transposition = 0;
         }
         tune
     }
