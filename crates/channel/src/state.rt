@@ -40,8 +40,8 @@ pub enum TriggerOption {
 }
 
 // The Rust's Channel, with what goes together in structs of its own. The S slot (19) of its memory is the path's, slots 27 to
-// 31 are spare. The AdLib voice is a mark: 0 none, 1 keyed, 2 released. The fields are copied one by one: this order takes
-// fewer instructions a row than the Rust's.
+// 31 are spare. The AdLib voice is a mark: 0 none, 1 keyed, 2 released. Fields are copied one by one or together with their
+// neighbours: this order takes less time a row than the Rust's.
 pub struct Channel {
     pub frequency: f32,
     pub target_frequency: f32,
@@ -50,6 +50,7 @@ pub struct Channel {
     pub instrument: u8,
     pub volume: u8,
     pub active: bool,
+    pub voice_global_vol: u8,
     pub command: u8,
     pub pan: u8,
     pub vibrato: Oscillator,
@@ -58,13 +59,12 @@ pub struct Channel {
     pub glissando: bool,
     pub tremor: Tremor,
     pub retrig_counter: u8,
-    pub voice_global_vol: u8,
+    pub pending_delay: TriggerOption,
     pub stored_volume: u8,
     pub tremolo: Oscillator,
     pub frozen: bool,
     pub opl_voice: u8,
     pub fixed: Fixed,
-    pub pending_delay: TriggerOption,
 }
 
 // A channel after a cell was played, and whether a note was struck.

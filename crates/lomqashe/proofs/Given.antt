@@ -25,7 +25,7 @@ channel-given c vs h =
       target = holds _ (f .1 .0 .1);
       position = holds _ (f .1 .1 .0 .1);
       memory = array-typed u8-field 32 (λ x. Unit) (λ x us g. tt) (c .«effect_memory») _ (f .1 .1 .1 .0) .0;
-      transposition = record { sfits = f .1 .1 .1 .1 .1 .1 .1 .1 .1 .1 .1 .1 .1 .1 .1 .1 .1 .1 .1 .1 .0 .1 .1 .1 .1 .1 .0 .1 };
+      transposition = record { sfits = f .1 .1 .1 .1 .1 .1 .1 .1 .1 .1 .1 .1 .1 .1 .1 .1 .1 .1 .1 .1 .1 .0 .1 .1 .1 .1 .1 .0 .1 };
     }
 
 pub state-given : (s : State) (vs : List Val) → shadow (state.the-row .own s vs) → Typed s
