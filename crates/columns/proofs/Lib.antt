@@ -1,0 +1,9 @@
+pub mod Differences
+pub mod Grids
+pub mod Inverse
+pub mod Sizes
+pub mod Trips
+pub mod Writing
+pub mod Ways
+pub mod Turns
+pub mod Tilings

@@ -1,0 +1,4 @@
+pub mod Columns
+pub mod Answers
+pub mod Trips
+pub mod Places
