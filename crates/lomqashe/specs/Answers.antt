@@ -118,6 +118,10 @@ given (some n) = n
 abbrev pub inOne : Said ℕ → ℕ
 inOne s = answerOf (s .number) (given (s .values))
 
+-- what a call says that gives nothing, in one number
+abbrev pub nothingInOne : Said Unit → ℕ
+nothingInOne s = answerOf (s .number) 0
+
 -- the punch head's step: a command above 255 is no byte, which is asked first
 unfoldable pub headRefusal : List ℕ → ℕ → List ℕ → ℕ
 headRefusal registers command row = pick (ltb 255 command) wrong (headRule registers command row)

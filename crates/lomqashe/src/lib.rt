@@ -1,5 +1,5 @@
 // The calls for a program in C or Rust, over numbers and bytes alone: no caller has anything to show. Each answers a
-// number: bits 24 to 31 say why the call refuses (0 it does not, 1 to 15 the rule, 255 a length at this border is wrong or
+// number: bits 24 to 31 say why the call refuses (0 it does not, 1 to 16 the rule, 255 a length at this border is wrong or
 // a command no byte, and then nothing is written), bits 0 to 23 what it gives.
 pub mod channels;
 pub mod floats;
@@ -21,12 +21,16 @@ ghost use Rattle.closed.specs.Answers.{isClosedSays};
 ghost use Rattle.closed.specs.Ends.{mostRows, EndsWithin};
 ghost use Rattle.sheet.specs.Strikes.{strikesSay, strikesOutput};
 ghost use Rattle.sheet.specs.Lines.{lineSays, lineOutput};
+ghost use Rattle.columns.specs.Answers.{storedSays, columnsSay, storeOutput, restoreOutput};
 ghost use Rattle.lomqashe.specs.Openings.{openingAt};
 ghost use Rattle.lomqashe.specs.States.{stateBytes, stateOf};
-ghost use Rattle.lomqashe.specs.Answers.{answerOf, countBytes, measureRefusal, countsAfter, readRefusal, openingBy, openingAfter, openRefusal, openClosedRefusal, stateOpened, closedInOne, sectionBy, sectionAnswer, stateAfter, recordsAfter, inOne, headRefusal, registersAfter};
+ghost use Rattle.lomqashe.specs.Answers.{answerOf, countBytes, measureRefusal, countsAfter, readRefusal, openingBy, openingAfter, openRefusal, openClosedRefusal, stateOpened, closedInOne, sectionBy, sectionAnswer, stateAfter, recordsAfter, inOne, nothingInOne, headRefusal, registersAfter};
 use closed::answer::ClosedAnswer;
 use closed::answer::is_closed;
 use closed::answer::open_closed;
+use columns::restore;
+use columns::rule::Stored;
+use columns::store;
 use opening::opening_of;
 use opening::put_opening;
 use punch_head::Stepped;
@@ -300,4 +304,32 @@ pub extern "C" fn lomqashe_head_step(registers: &mut [u8], command: u32, row: &[
         Stepped::Done(_) => 0,
         Stepped::Refused(rule) => refused(rule),
     }
+}
+
+// What Store and Restore answer, in one number.
+fn stored_in_one(answer: Stored) -> u32
+    ensures { λ r. ⌜ r ≡ nothingInOne (storedSays answer) ⌝ }
+{
+    match answer {
+        Stored::Done => 0,
+        Stored::Refused(rule) => refused(rule),
+    }
+}
+
+// Store: m records as 536 columns of m bytes, differences in each.
+#[no_mangle]
+pub extern "C" fn lomqashe_store(records: &[u8], m: u32, columns: &mut [u8]) -> u32
+    ensures answer { λ r. ⌜ r ≡ nothingInOne (columnsSay (now (records .entry)) m (now (columns .entry))) ⌝ }
+    ensures written { λ _. ⌜ now (columns .exit) ≡ storeOutput (now (records .entry)) m (now (columns .entry)) ⌝ }
+{
+    stored_in_one(store(records, m, columns))
+}
+
+// Restore: the m records of such columns.
+#[no_mangle]
+pub extern "C" fn lomqashe_restore(columns: &[u8], m: u32, records: &mut [u8]) -> u32
+    ensures answer { λ r. ⌜ r ≡ nothingInOne (columnsSay (now (columns .entry)) m (now (records .entry))) ⌝ }
+    ensures written { λ _. ⌜ now (records .exit) ≡ restoreOutput (now (columns .entry)) m (now (records .entry)) ⌝ }
+{
+    stored_in_one(restore(columns, m, records))
 }
