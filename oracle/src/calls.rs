@@ -1,8 +1,9 @@
-//! Calls of the border's nine functions, bytes in and bytes out, and the judge of what they answer: the original for
-//! Open and Section, 01's reader for Measure and Read, 02's words for Strikes, closed tunes and the punch head, and 01's
-//! for Line and for every other refusal.
+//! Calls of the border's eleven functions, bytes in and bytes out, and the judge of what they answer: the original for
+//! Open and Section, 01's reader for Measure and Read, 02's words for Strikes, closed tunes, the punch head and columns,
+//! and 01's for Line and for every other refusal.
 
 use crate::closed;
+use crate::columns;
 use crate::head;
 use crate::player::bridge::{Original, open};
 use crate::reader::{self, Lent};
@@ -26,13 +27,15 @@ pub enum Function {
     IsClosed,
     OpenClosed,
     HeadStep,
+    Store,
+    Restore,
 }
 
 use Function::*;
 
 impl Function {
-    pub const ALL: [Function; 9] = [
-        Measure, Read, Open, Section, Strikes, Line, IsClosed, OpenClosed, HeadStep,
+    pub const ALL: [Function; 11] = [
+        Measure, Read, Open, Section, Strikes, Line, IsClosed, OpenClosed, HeadStep, Store, Restore,
     ];
 
     pub fn name(self) -> &'static str {
@@ -46,6 +49,8 @@ impl Function {
             IsClosed => "is_closed",
             OpenClosed => "open_closed",
             HeadStep => "head_step",
+            Store => "store",
+            Restore => "restore",
         }
     }
 }
@@ -56,7 +61,7 @@ pub type Slots = [Vec<u8>; 5];
 #[derive(Clone, Debug, PartialEq, Eq)]
 pub struct Call {
     pub function: Function,
-    /// Read's rate, Section's n, a step's command.
+    /// Read's rate, Section's n, a step's command, the m of Store and Restore.
     pub number: u32,
     pub slots: Slots,
 }
@@ -139,6 +144,11 @@ impl Call {
         Call::new(HeadStep, command, [registers.to_vec(), record.to_vec()])
     }
 
+    /// Store or Restore, into an output of so many bytes.
+    pub fn of_columns(function: Function, m: u32, input: &[u8], output: usize) -> Call {
+        Call::new(function, m, [input.to_vec(), untouched(output)])
+    }
+
     /// The tables that a call on a tune is lent, without opening values.
     pub fn tune(&self) -> Tune {
         let [orders, cells, samples, ..] = self.slots.clone();
@@ -167,7 +177,7 @@ pub fn answer(call: &Call) -> Answer {
     Answer { number, slots }
 }
 
-/// What a call gives that breaks none of the rules 9 to 15.
+/// What a call gives that breaks none of the rules 9 to 16.
 fn write(call: &Call, slots: &mut Slots) -> Result<u32, u8> {
     match call.function {
         Measure => {
@@ -199,6 +209,8 @@ fn write(call: &Call, slots: &mut Slots) -> Result<u32, u8> {
         }
         IsClosed => return Ok(closed::is_closed(&call.tune()).into()),
         HeadStep => head::step(&mut slots[0], call.number as u8, &call.slots[1]),
+        Store => slots[1] = columns::store(&slots[0]),
+        Restore => slots[1] = columns::restore(&slots[0]),
     }
     Ok(0)
 }

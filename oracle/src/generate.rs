@@ -2,6 +2,7 @@
 
 mod cells;
 pub mod closed;
+pub mod columns;
 pub mod files;
 pub mod head;
 pub mod pitch;

@@ -3,6 +3,7 @@
 pub mod calls;
 pub mod card;
 pub mod closed;
+pub mod columns;
 pub mod cover;
 pub mod generate;
 pub mod head;

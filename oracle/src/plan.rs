@@ -2,6 +2,7 @@
 //! that show something which no others do.
 
 mod closed;
+mod columns;
 mod head;
 mod pitch;
 mod strikes;
@@ -54,7 +55,7 @@ pub fn recorded() -> Vec<Case> {
     let rows: Vec<&[u8]> = rows.collect();
     let calls = |row: &&[u8]| [Function::Strikes, Function::Line].map(|function| Call::of_record(function, row, 70));
     let records = rows.iter().flat_map(calls).map(Case::of);
-    let more: Vec<Case> = records.chain(head::cases(&rows)).collect();
+    let more: Vec<Case> = records.chain(head::cases(&rows)).chain(columns::cases(&rows)).collect();
     cases.extend(more);
     cases
 }

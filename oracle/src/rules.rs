@@ -1,8 +1,9 @@
-//! Rules 9 to 15 written from 01 and 02 alone, and 255 from the border: the original refuses nothing.
+//! Rules 9 to 16 written from 01 and 02 alone, and 255 from the border: the original refuses nothing.
 
 use crate::calls::{Call, Function};
 use crate::card::unit;
 use crate::closed;
+use crate::columns::{LEAST_RECORDS, MOST_RECORDS};
 use crate::head::{INTERRUPT, LATE, LOAD, LOADED, REGISTERS_BYTES, STATUS};
 use crate::state::{STATE_BYTES, State};
 use crate::transposed::SPAN;
@@ -14,6 +15,10 @@ pub const COUNTS_BYTES: usize = 12;
 /// What Strikes and Line need as output.
 pub const STRIKES_BYTES: usize = 32;
 pub const LINE_BYTES: usize = 64;
+
+/// No room of the list has the bytes that so many need.
+pub const ROWS_ABOVE: &str = "n above 65,535";
+pub const RECORDS_ABOVE: &str = "m above 65,535";
 
 /// What 02 adds to rule 11.
 pub const REMAINDER: &str = "remainder of 2 * tempo or more";
@@ -43,6 +48,7 @@ pub fn facts(call: &Call) -> Vec<Fact> {
         Function::Strikes => record(a, b, STRIKES_BYTES),
         Function::Line => record(a, b, LINE_BYTES),
         Function::HeadStep => head_step(call.number, a, b),
+        Function::Store | Function::Restore => columns(call.number, a, b),
     }
 }
 
@@ -136,7 +142,7 @@ fn not_closed(tune: &Tune) -> Vec<Fact> {
 
 fn output(n: u32, output: &[u8]) -> Vec<Fact> {
     let short = (output.len() as u64) < RECORD_BYTES as u64 * u64::from(n);
-    of_rule(12, [(n > 65_535, "n above 65,535"), (short, "output too short")])
+    of_rule(12, [(n > 65_535, ROWS_ABOVE), (short, "output too short")])
 }
 
 fn record(record: &[u8], output: &[u8], least: usize) -> Vec<Fact> {
@@ -173,4 +179,19 @@ fn registers(bytes: &[u8]) -> Vec<Fact> {
         (byte(STATUS) & !(LOADED | LATE | INTERRUPT) != 0, "other status bits"),
     ];
     of_rule(15, facts)
+}
+
+/// Lengths are asked of any m, so that an m outside its span may be broken alone.
+fn columns(m: u32, input: &[u8], output: &[u8]) -> Vec<Fact> {
+    let bytes = u64::from(m) * RECORD_BYTES as u64;
+    let [given, lent] = [input, output].map(|slot| slot.len() as u64);
+    let facts = [
+        (m < LEAST_RECORDS, "m of 0"),
+        (m > MOST_RECORDS, RECORDS_ABOVE),
+        (given < bytes, "input below m * 536 bytes"),
+        (given > bytes, "input above m * 536 bytes"),
+        (lent < bytes, "output below m * 536 bytes"),
+        (lent > bytes, "output above m * 536 bytes"),
+    ];
+    of_rule(16, facts)
 }

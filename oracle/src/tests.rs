@@ -2,8 +2,9 @@
 
 use crate::calls::{Call, Function, UNTOUCHED};
 use crate::closed::{B, S, is_closed};
+use crate::columns::{restore, store};
 use crate::generate::closed::Put;
-use crate::generate::{closed, pitch, records, transposed};
+use crate::generate::{closed, columns, pitch, records, transposed};
 use crate::head::{CLEAR, LOAD, STRIKE, step};
 use crate::list::{self, Case};
 use crate::player::PERIOD_TABLE;
@@ -413,5 +414,65 @@ fn a_transposition_is_taken_within_its_span() {
         let mut call = Call::section(&tune, state.clone(), 1, 0);
         call.slots[3][HEAD_BYTES + CHANNEL_BYTES * channel + TRANSPOSITION] = byte;
         assert_eq!(Case::of(call).answer.refusal(), rule(11), "{byte}");
+    }
+}
+
+/// Three records that differ in the first two columns and the last, stored by hand from 02.
+#[test]
+fn columns_are_02s() {
+    let record = |first: [u8; 2], last: u8| [&first[..], &[9; 533], &[last]].concat();
+    let records = [record([5, 255], 0), record([3, 0], 255), record([5, 255], 0)].concat();
+    let columns = [&[5, 254, 2, 255, 1, 255][..], &[9, 0, 0].repeat(533), &[0, 255, 1]].concat();
+    assert_eq!(store(&records), columns);
+    assert_eq!(restore(&columns), records);
+    // Of a record alone each byte is a column's first.
+    let alone: Vec<u8> = (0..=255).cycle().take(RECORD_BYTES).collect();
+    assert_eq!(store(&alone), alone);
+    assert_eq!(restore(&alone), alone);
+}
+
+/// 02: 'Storing then restoring is the identity, and restoring then storing too.'
+#[test]
+fn columns_are_undone() {
+    let random = &mut Random::new(7);
+    for m in 1..=130 {
+        let bytes = columns::bytes(random, m);
+        assert_eq!(restore(&store(&bytes)), bytes, "{m} records");
+        assert_eq!(store(&restore(&bytes)), bytes, "{m} records");
+    }
+}
+
+/// What storing and restoring m records are refused by, of so many bytes into so many; a refusal leaves all as it was.
+#[test]
+fn columns_are_refused_by_16() {
+    let refused = |m, input: usize, output: usize| {
+        let refusals = [Function::Store, Function::Restore].map(|function| {
+            let case = Case::of(Call::of_columns(function, m, &vec![7; input], output));
+            assert!(case.answer.refusal() == 0 || case.answer.slots == case.call.slots);
+            case.answer.number
+        });
+        assert_eq!(refusals[0], refusals[1]);
+        refusals[0]
+    };
+    let taken = [(1, 536), (2, 1_072), (122, 65_392), (65_535, 35_126_760)];
+    assert_eq!(taken.map(|(m, bytes)| refused(m, bytes, bytes)), [0; 4]);
+    let outside = [
+        (0, 0),
+        (0, 536),
+        (65_536, 35_127_296),
+        (65_537, 536),
+        (1 << 29 | 1, 536),
+        (u32::MAX, 0),
+    ];
+    assert_eq!(outside.map(|(m, bytes)| refused(m, bytes, bytes)), [16 << 24; 6]);
+    for bytes in [0, 535, 537, 1_071, 1_073, 1_608] {
+        assert_eq!(
+            [
+                refused(2, bytes, 1_072),
+                refused(2, 1_072, bytes),
+                refused(2, bytes, bytes)
+            ],
+            [16 << 24; 3]
+        );
     }
 }

@@ -3,6 +3,7 @@
 
 mod card;
 mod closed;
+mod columns;
 mod files;
 mod head;
 mod refusals;
@@ -15,6 +16,8 @@ use crate::calls::Function;
 use crate::list::Case;
 use crate::record;
 use crate::rules;
+use crate::tune::RECORD_BYTES;
+use columns::Stored;
 use head::Steps;
 use sections::Sections;
 use std::collections::{BTreeMap, BTreeSet};
@@ -23,7 +26,7 @@ use std::path::Path;
 const MOST_BYTES: u64 = 3_000_000;
 
 /// So many things are asked for: none may drop out because nothing looks for it.
-const ASKED: usize = 7_413;
+const ASKED: usize = 10_192;
 
 /// Where a thing must be seen, behind its name: anywhere, from states, or there and along walks from Open.
 type Needed = &'static [&'static str];
@@ -36,6 +39,7 @@ const BOTH: Needed = &[", from states", ", along walks"];
 struct Lists {
     sections: Sections,
     steps: Steps,
+    stored: Stored,
 }
 
 #[derive(Default)]
@@ -174,6 +178,7 @@ fn asked() -> Tally {
         strikes::needs,
         closed::needs,
         head::needs,
+        columns::needs,
         transposed::needs,
     ] {
         needs(&mut tally);
@@ -194,6 +199,7 @@ fn see(tally: &mut Tally, lists: &mut Lists, case: &Case) -> Result<(), String> 
         transposed::see_refused(tally, case, &broken);
         return match case.call.function {
             Function::HeadStep => lists.steps.refused(tally, case),
+            Function::Store | Function::Restore => columns::refused(tally, case),
             _ if first == 14 => closed::see(tally, case),
             _ => Ok(()),
         };
@@ -212,6 +218,12 @@ fn see(tally: &mut Tally, lists: &mut Lists, case: &Case) -> Result<(), String> 
         Function::Line => refusals::see_line(tally, case),
         Function::IsClosed | Function::OpenClosed => closed::see(tally, case)?,
         Function::HeadStep => lists.steps.see(tally, case, sections.gave(&case.call.slots[1]))?,
+        Function::Store | Function::Restore => {
+            let restores = case.call.function == Function::Restore;
+            let mut records = case.answer.slots[usize::from(restores)].chunks(RECORD_BYTES);
+            let from_sections = records.all(|record| sections.gave(record));
+            lists.stored.see(tally, case, from_sections)?;
+        }
     }
     Ok(())
 }

@@ -1,4 +1,4 @@
-//! Refusals by rules 9 to 15 and by 255: each way to break them alone, and the order in which they are asked.
+//! Refusals by rules 9 to 16 and by 255: each way to break them alone, and the order in which they are asked.
 
 use super::Tally;
 use crate::calls::Function;
@@ -6,6 +6,15 @@ use crate::card::unit;
 use crate::list::Case;
 use crate::rules;
 use crate::tune::le16;
+
+/// Those of which each way to break a rule is asked by itself.
+const OF_FUNCTION: [Function; 5] = [
+    Function::IsClosed,
+    Function::OpenClosed,
+    Function::HeadStep,
+    Function::Store,
+    Function::Restore,
+];
 
 pub fn needs(tally: &mut Tally) {
     tally.family("open by rule {}", ["9", "9 before 10", "255", "255 before 9 before 10"]);
@@ -23,6 +32,8 @@ pub fn needs(tally: &mut Tally) {
         "head_step by rule {}",
         ["255", "15", "13", "255 before 15", "15 before 13"],
     );
+    tally.family("store by rule {}", ["16"]);
+    tally.family("restore by rule {}", ["16"]);
     tally.family("section by rule {}", ["9", "9 before 11", "9 before 12"]);
     tally.family("section by rule {}", ["11 before 12", "9 before 11 before 12"]);
     tally.family("section by rule {}", ["255", "255 before 9"]);
@@ -36,11 +47,10 @@ pub fn needs(tally: &mut Tally) {
 /// What is broken alone, and which rules the one that answers goes before.
 pub fn see(tally: &mut Tally, case: &Case, broken: &[(u8, &str)]) {
     let (call, name) = (&case.call, case.call.function.name());
-    // No room of the list has the bytes that so many rows need.
-    for (rule, what, _) in rules::facts(call).into_iter().filter(|fact| fact.1 != "n above 65,535") {
+    let in_rooms = |what| what != rules::ROWS_ABOVE && what != rules::RECORDS_ABOVE;
+    for (rule, what, _) in rules::facts(call).into_iter().filter(|fact| in_rooms(fact.1)) {
         tally.family(&format!("rule {rule}: {{}}"), [what]);
-        let of_function = [Function::IsClosed, Function::OpenClosed, Function::HeadStep];
-        if of_function.contains(&call.function) {
+        if OF_FUNCTION.contains(&call.function) {
             tally.family(&format!("{name} by rule {rule}: {{}}"), [what]);
         }
     }
