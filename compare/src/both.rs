@@ -49,15 +49,15 @@ pub fn compared(call: &Call, ours: &Answer, theirs: &Answer) -> Result<(), Strin
     }
     for (slot, (ours, theirs)) in ours.slots.iter().zip(&theirs.slots).enumerate() {
         if let Some(at) = (0..ours.len()).find(|&at| ours[at] != theirs[at]) {
-            let place = place(call.function, slot, at);
+            let place = place(call, slot, at);
             return Err(format!("{name}: {place} is {} and not {}", ours[at], theirs[at]));
         }
     }
     Ok(())
 }
 
-fn place(function: Function, slot: usize, at: usize) -> String {
-    match (function, slot) {
+fn place(call: &Call, slot: usize, at: usize) -> String {
+    match (call.function, slot) {
         (Function::Open | Function::OpenClosed, 4) | (Function::Section, 3) if at >= HEAD_BYTES => {
             let channel = (at - HEAD_BYTES) / CHANNEL_BYTES;
             format!(
@@ -66,8 +66,14 @@ fn place(function: Function, slot: usize, at: usize) -> String {
             )
         }
         (Function::Open | Function::OpenClosed, 4) | (Function::Section, 3) => format!("byte {at} of the state"),
-        (Function::Section, 4) => format!("byte {} of record {}", at % RECORD_BYTES, at / RECORD_BYTES),
+        (Function::Section, 4) | (Function::Restore, 1) => {
+            format!("byte {} of record {}", at % RECORD_BYTES, at / RECORD_BYTES)
+        }
         (Function::HeadStep, 0) => format!("register {at}"),
+        (Function::Store, 1) if call.number > 0 => {
+            let m = call.number as usize;
+            format!("byte {} of column {}", at % m, at / m)
+        }
         _ => format!("byte {at} of slot {slot}"),
     }
 }

@@ -1,4 +1,4 @@
-//! The library's nine functions, called on the bytes of a call.
+//! The library's eleven functions, called on the bytes of a call.
 
 use oracle::calls::{Answer, Call, Function};
 
@@ -36,6 +36,8 @@ mod raw {
             el: usize,
         ) -> u32;
         pub fn lomqashe_head_step(a: *mut u8, al: usize, command: u32, b: *const u8, bl: usize) -> u32;
+        pub fn lomqashe_store(a: *const u8, al: usize, m: u32, b: *mut u8, bl: usize) -> u32;
+        pub fn lomqashe_restore(a: *const u8, al: usize, m: u32, b: *mut u8, bl: usize) -> u32;
         pub fn lomqashe_is_closed(a: *const u8, al: usize, b: *const u8, bl: usize, c: *const u8, cl: usize) -> u32;
         pub fn lomqashe_open_closed(
             a: *const u8,
@@ -82,6 +84,8 @@ pub fn answer(call: &Call) -> Answer {
             Function::IsClosed => raw::lomqashe_is_closed(a, al, b, bl, c, cl),
             Function::OpenClosed => raw::lomqashe_open_closed(a, al, b, bl, c, cl, d, dl, e, el),
             Function::HeadStep => raw::lomqashe_head_step(a, al, call.number, b, bl),
+            Function::Store => raw::lomqashe_store(a, al, call.number, b, bl),
+            Function::Restore => raw::lomqashe_restore(a, al, call.number, b, bl),
         }
     };
     Answer { number, slots }

@@ -4,6 +4,7 @@
 mod both;
 mod cells;
 mod closed;
+mod columns;
 mod files;
 mod head;
 mod library;
@@ -60,6 +61,10 @@ fn compare(seed: u64, rows: u64) -> Result<(), String> {
     println!(
         "head: {}, 0 differences",
         head::compare(&mut Random::new(seed ^ 0x4EAD), rows / 100)?
+    );
+    println!(
+        "columns: {}, 0 differences",
+        columns::compare(&mut Random::new(seed ^ 0xC015), rows / 1_000)?
     );
     println!(
         "refusals: {}, 0 differences",

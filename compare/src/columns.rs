@@ -1,0 +1,96 @@
+//! Stored and restored records: numbers of them about the library's blocks and up to the most, each call undone by the other,
+//! and every way to break rule 16.
+
+use crate::both::Both;
+use oracle::calls::{Call, Function};
+use oracle::columns::MOST_RECORDS;
+use oracle::generate::columns;
+use oracle::random::Random;
+use oracle::tune::RECORD_BYTES;
+
+const BOTH: [Function; 2] = [Function::Store, Function::Restore];
+/// About the library's blocks of 64 records, and some thousands.
+const CHOSEN: [u32; 16] = [1, 2, 3, 62, 63, 64, 65, 66, 127, 128, 129, 191, 192, 193, 4_096, 5_003];
+/// The most records of a random call.
+const FEW: u32 = 300;
+/// Lengths go up to this, with m from 0 to 3.
+const LENGTHS: usize = 3 * RECORD_BYTES + 1;
+/// None of them in the span.
+const OUTSIDE: [u32; 6] = [0, 65_536, 65_537, 1 << 29, 1 << 31 | 1, u32::MAX];
+
+pub fn compare(random: &mut Random, calls: u64) -> Result<String, String> {
+    let (both, mut records) = (&mut Both::default(), 0);
+    for (m, function) in CHOSEN
+        .into_iter()
+        .chain([MOST_RECORDS])
+        .flat_map(|m| BOTH.map(|function| (m, function)))
+    {
+        let input = columns::bytes(random, m as usize);
+        records += undone(both, &Call::of_columns(function, m, &input, input.len()))?;
+    }
+    for n in 0..calls {
+        let call = columns::call(random, FEW);
+        records += undone(both, &call).map_err(|why| format!("call {n}: {why}"))?;
+    }
+    lengths(both)?;
+    outside(both)?;
+    Ok(format!("{records} records stored and restored, {}", both.refusals()))
+}
+
+/// A call, and where it is taken the other one, which gives its input again; how many records that was.
+fn undone(both: &mut Both, call: &Call) -> Result<u64, String> {
+    let m = call.number;
+    let of = |why| format!("{m} records: {why}");
+    let answer = both.same(call).map_err(of)?;
+    if answer.refusal() > 0 {
+        return Ok(0);
+    }
+    let [input, output, ..] = &answer.slots;
+    let other = BOTH[usize::from(call.function == Function::Store)];
+    let back = both
+        .same(&Call::of_columns(other, m, output, output.len()))
+        .map_err(of)?;
+    let same = back.slots[1] == *input;
+    same.then_some(m.into())
+        .ok_or_else(|| of(format!("{} does not undo it", other.name())))
+}
+
+/// Each length of the input, of the output and of both.
+fn lengths(both: &mut Both) -> Result<(), String> {
+    for (m, length) in (0..=3).flat_map(|m| (0..=LENGTHS).map(move |length| (m, length))) {
+        let good = m as usize * RECORD_BYTES;
+        for (input, output) in [(length, good), (good, length), (length, length)] {
+            refused_or_not(both, m, input, output)?;
+        }
+    }
+    Ok(())
+}
+
+/// An m outside its span, with few records and with as many as it or its low 16 bits say; and the most, with sizes that are
+/// off.
+fn outside(both: &mut Both) -> Result<(), String> {
+    for (m, records) in OUTSIDE.into_iter().flat_map(|m| [0, 1, 2].map(|records| (m, records))) {
+        refused_or_not(both, m, records * RECORD_BYTES, records * RECORD_BYTES)?;
+    }
+    let most = MOST_RECORDS as usize * RECORD_BYTES;
+    let above = most + RECORD_BYTES;
+    let large = [
+        (MOST_RECORDS + 1, above, above),
+        (MOST_RECORDS + 1, most, most),
+        (u32::MAX, most, most),
+        (MOST_RECORDS, most, above),
+        (MOST_RECORDS, most - 1, most),
+    ];
+    for (m, input, output) in large {
+        refused_or_not(both, m, input, output)?;
+    }
+    Ok(())
+}
+
+fn refused_or_not(both: &mut Both, m: u32, input: usize, output: usize) -> Result<(), String> {
+    for function in BOTH {
+        both.same(&Call::of_columns(function, m, &vec![7; input], output))
+            .map_err(|why| format!("m {m} with {input} and {output} bytes: {why}"))?;
+    }
+    Ok(())
+}
