@@ -1,7 +1,7 @@
 /*
  * lomqashe.h - the row sheet of a Scream Tracker 3 tune
  *
- * Nine functions over numbers and bytes, in the archive target/staticlib/liblomqashe.a that
+ * Eleven functions over numbers and bytes, in the archive target/staticlib/liblomqashe.a that
  * `rt staticlib lomqashe` writes. Each result, and every byte written, is proved equal to a
  * definition that the function's contract in crates/lomqashe/src/lib.rt names, for all inputs: no
  * length and no value is a mistake that a function doesn't answer. They keep nothing between calls,
@@ -50,6 +50,7 @@
  *     14       the tune is not closed, as lomqashe_is_closed() says it
  *     15       the registers are not 16 bytes, their byte 2 or 3 is not 0, or a bit of the status
  *              other than 0, 1 and 7 is set
+ *     16       m is 0 or above 65,535, or the records or the columns are not m * 536 bytes
  *     255      counts, opening or state is not LOMQASHE_COUNTS_SIZE, _OPENING_SIZE or _STATE_SIZE
  *              bytes long, or the command is above 255
  *
@@ -293,6 +294,37 @@ uint32_t lomqashe_line(const uint8_t *record, size_t record_size,
  */
 uint32_t lomqashe_head_step(uint8_t *registers, size_t registers_size, uint32_t command,
                             const uint8_t *record, size_t record_size);
+
+/*
+ * lomqashe_store() writes the records of m rows in column order, for an archive: like bytes lie
+ * together.
+ *
+ * m is 1 to 65,535. records is m records of 536 bytes one after the other, as lomqashe_section()
+ * writes them; any bytes are taken. columns is as long, and all of it is written: 536 columns of m
+ * bytes, one after the other. Column c has byte c of each record, from the first record on, the
+ * first byte as it is and each other as its difference from the one before, modulo 256:
+ *
+ *     byte c * m       byte c of record 0
+ *     byte c * m + r   byte c of record r minus that of record r - 1, for r above 0
+ *
+ * with c from 0 to 535 and r below m. m is not written: it is the length of columns over 536.
+ *
+ * Gives 0. Refuses with 16.
+ */
+uint32_t lomqashe_store(const uint8_t *records, size_t records_size, uint32_t m,
+                        uint8_t *columns, size_t columns_size);
+
+/*
+ * lomqashe_restore() undoes lomqashe_store(): it writes m records, all m * 536 bytes of them. Byte c
+ * of record r is the sum of the first r + 1 bytes of column c, modulo 256.
+ *
+ * Every m * 536 bytes are the columns of some records, so that no content is refused. Storing and
+ * then restoring gives back the records, and restoring and then storing the columns.
+ *
+ * Gives 0. Refuses with 16.
+ */
+uint32_t lomqashe_restore(const uint8_t *columns, size_t columns_size, uint32_t m,
+                          uint8_t *records, size_t records_size);
 
 #ifdef __cplusplus
 }

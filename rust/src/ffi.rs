@@ -74,6 +74,20 @@ mod raw {
             record: *const u8,
             record_len: usize,
         ) -> u32;
+        pub fn lomqashe_store(
+            records: *const u8,
+            records_len: usize,
+            m: u32,
+            columns: *mut u8,
+            columns_len: usize,
+        ) -> u32;
+        pub fn lomqashe_restore(
+            columns: *const u8,
+            columns_len: usize,
+            m: u32,
+            records: *mut u8,
+            records_len: usize,
+        ) -> u32;
     }
 }
 
@@ -216,6 +230,14 @@ pub fn head_step(registers: &mut [u8], command: u32, record: &[u8]) -> Result<u3
             record.len(),
         )
     })
+}
+
+pub fn store(records: &[u8], m: u32, columns: &mut [u8]) -> Result<u32, Refusal> {
+    answer(unsafe { raw::lomqashe_store(records.as_ptr(), records.len(), m, columns.as_mut_ptr(), columns.len()) })
+}
+
+pub fn restore(columns: &[u8], m: u32, records: &mut [u8]) -> Result<u32, Refusal> {
+    answer(unsafe { raw::lomqashe_restore(columns.as_ptr(), columns.len(), m, records.as_mut_ptr(), records.len()) })
 }
 
 #[cfg(test)]
@@ -366,6 +388,51 @@ mod tests {
                     assert_eq!(head_step(&mut registers(status), command, &record), Ok(0));
                 }
             }
+        }
+    }
+
+    /// Both calls refuse so many records in so many bytes, and leave the output as it was.
+    fn refused_columns(m: u32, input: usize, room: usize) {
+        for call in [store, restore] {
+            let mut out = vec![UNTOUCHED; room];
+            assert_eq!(number(call(&vec![1; input], m, &mut out)), 16, "{m}, {input}, {room}");
+            assert!(out.iter().all(|&byte| byte == UNTOUCHED));
+        }
+    }
+
+    #[test]
+    fn records_and_columns_of_other_sizes_are_rule_16() {
+        for m in [1, 2, 3] {
+            let right = m as usize * 536;
+            for other in [0, 536 * 4, right - 536, right - 1, right + 1, right + 536] {
+                refused_columns(m, right, other);
+                refused_columns(m, other, right);
+                refused_columns(m, other, other);
+            }
+        }
+        for m in [0, 2, 65_535] {
+            refused_columns(m, 536, 536);
+        }
+    }
+
+    #[test]
+    fn a_number_of_records_out_of_its_span_is_rule_16_whatever_the_lengths() {
+        for m in [0, 65_536] {
+            refused_columns(m, 0, 0);
+            refused_columns(m, m as usize * 536, m as usize * 536);
+        }
+        // As 16 bits these numbers are 1, and as 32 bits 536 times the second is 536.
+        for m in [65_537, (1 << 29) + 1, u32::MAX] {
+            refused_columns(m, 536, 536);
+        }
+    }
+
+    #[test]
+    fn all_bytes_are_written_where_columns_are_taken() {
+        for call in [store, restore] {
+            let mut out = [UNTOUCHED; 2 * 536];
+            assert_eq!(call(&[0; 2 * 536], 2, &mut out), Ok(0));
+            assert_eq!(out, [0; 2 * 536]);
         }
     }
 

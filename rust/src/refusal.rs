@@ -3,7 +3,7 @@
 use std::error::Error;
 use std::fmt;
 
-/// The rule that a file, a tune, a state or a punch head breaks, by its number in document 01 or 02.
+/// The rule that a file, a tune, a state, a punch head or a stored sheet breaks, by its number in document 01 or 02.
 ///
 /// ```
 /// let refusal = lomqashe::Tune::read(b"no tune", 60_000).unwrap_err();
@@ -22,7 +22,7 @@ impl Refusal {
         (number != 0).then_some(Refusal(number))
     }
 
-    /// 1 to 15, or 255 where a length at the library's border is wrong or a command is above 255.
+    /// 1 to 16, or 255 where a length at the library's border is wrong or a command is above 255.
     pub fn number(self) -> u8 {
         self.0
     }
@@ -54,6 +54,9 @@ impl Refusal {
             15 => {
                 "the punch head's registers are not 16 bytes, their byte 2 or 3 is not 0, or a status bit other than 0, \
                  1 and 7 is set"
+            }
+            16 => {
+                "the records to store or restore are not 1 to 65,535 of 536 bytes each, or the output has another length"
             }
             _ => "a length at the library's border is wrong, or a command is above 255",
         }

@@ -2,7 +2,7 @@
 
 use lomqashe::{
     Breach, CellPlace, ChannelOpening, Counts, CutSection, HeadStatus, Opening, PunchHead, Record, Refusal, Repeat,
-    Rows, Section, Sections, State, Strikes, Tune, Voice,
+    Rows, Section, Sections, State, Strikes, Tune, Voice, restore,
 };
 use std::fmt::{Debug, Display};
 use std::hash::Hash;
@@ -75,6 +75,8 @@ fn bytes_of_another_length_are_refused() {
         );
     }
     assert_eq!(State::try_from(&[7; 2_624][..]).unwrap().as_ref(), [7; 2_624]);
+    assert_eq!(restore(&[0; 535]).unwrap_err().number(), 16);
+    assert_eq!(restore(&[7; 536]).unwrap(), [Record::from_bytes(&[7; 536])]);
 }
 
 #[test]
