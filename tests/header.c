@@ -1,6 +1,7 @@
 /* The header and the archive alone. Prints the sheet of the S3M file on standard input. With the argument `null` it tries
  * NULL with length 0 everywhere, with `strikes` their order, with `closed` whether that file is closed, with `transposed`
- * its pitch an octave up, with `head` the punch head on its rows, with `stack` how much stack the calls on that file take. */
+ * its pitch an octave up, with `head` the punch head on its rows, with `columns` its rows stored and restored, with `stack`
+ * how much stack the calls on that file take. */
 #define _GNU_SOURCE
 #include "lomqashe.h"
 #include <math.h>
@@ -15,6 +16,7 @@
 static uint8_t file[65536], counts[LOMQASHE_COUNTS_SIZE], opening[LOMQASHE_OPENING_SIZE], state[LOMQASHE_STATE_SIZE];
 static uint8_t records[ROWS * LOMQASHE_RECORD_SIZE], line[LOMQASHE_LINE_SIZE], struck[LOMQASHE_STRIKES_SIZE];
 static uint8_t registers[LOMQASHE_REGISTERS_SIZE];
+static uint8_t columns[ROWS * LOMQASHE_RECORD_SIZE], restored[ROWS * LOMQASHE_RECORD_SIZE];
 static size_t file_size, n_orders, n_samples, n_cells;
 static uint8_t *orders, *samples, *cells;
 static uint32_t answer;
@@ -84,6 +86,16 @@ static void step(uint32_t command, const uint8_t *record)
 static void load_row(void)
 {
     step(LOMQASHE_HEAD_LOAD, records);
+}
+
+static void store_rows(void)
+{
+    answer = lomqashe_store(records, sizeof records, ROWS, columns, sizeof columns);
+}
+
+static void restore_rows(void)
+{
+    answer = lomqashe_restore(columns, sizeof columns, ROWS, restored, sizeof restored);
 }
 
 /* Tables of the sizes that the counts ask for; NULL where that is 0. */
@@ -193,6 +205,12 @@ static void null_refusals(void)
     expect_refusal(lomqashe_head_step(registers, sizeof registers, LOMQASHE_HEAD_LOAD, NULL, 0), 13, "load of NULL");
     step(LOMQASHE_HEAD_CLEAR, NULL);
     check(answer == 0 && registers[0] == LOMQASHE_HEAD_CLEAR, "clear with NULL");
+    expect_refusal(lomqashe_store(NULL, 0, 0, NULL, 0), 16, "store of NULL");
+    expect_refusal(lomqashe_store(NULL, 0, 1, columns, LOMQASHE_RECORD_SIZE), 16, "store of a record at NULL");
+    expect_refusal(lomqashe_store(records, LOMQASHE_RECORD_SIZE, 1, NULL, 0), 16, "store into NULL");
+    expect_refusal(lomqashe_restore(NULL, 0, 0, NULL, 0), 16, "restore of NULL");
+    expect_refusal(lomqashe_restore(NULL, 0, 1, records, LOMQASHE_RECORD_SIZE), 16, "restore of columns at NULL");
+    expect_refusal(lomqashe_restore(columns, LOMQASHE_RECORD_SIZE, 1, NULL, 0), 16, "restore into NULL");
 }
 
 /* Struck channels by frequency: equal ones by number, those that are not a number last. Channel 9 on are not struck. */
@@ -346,6 +364,82 @@ static void punch_head(void)
     give_tables_back();
 }
 
+/* Both calls refuse, and write nothing. */
+static void expect_column_refusals(size_t in_size, uint32_t m, size_t out_size)
+{
+    uint8_t before[sizeof columns];
+    memset(columns, 0xa5, sizeof columns);
+    memcpy(before, columns, sizeof columns);
+    expect_refusal(lomqashe_store(records, in_size, m, columns, out_size), 16, "store");
+    expect_refusal(lomqashe_restore(records, in_size, m, columns, out_size), 16, "restore");
+    check(memcmp(before, columns, sizeof columns) == 0, "the output where store or restore refuses");
+}
+
+static void column_refusals(void)
+{
+    static const size_t others[] = {0, 1, 535, 537, 2 * 536 - 1, 2 * 536 + 1, 3 * 536, 4 * 536};
+    for (size_t i = 0; i < sizeof others / sizeof *others; i++) {
+        expect_column_refusals(others[i], 2, 2 * 536);
+        expect_column_refusals(2 * 536, 2, others[i]);
+        expect_column_refusals(others[i], 2, others[i]);
+    }
+    expect_column_refusals(0, 0, 0);
+    expect_column_refusals(536, 0, 536);
+    expect_column_refusals(536, 65537, 536);
+    expect_column_refusals(536, 0x20000001, 536);
+    expect_column_refusals(536, UINT32_MAX, 536);
+}
+
+/* 65,536 records are one too many, in memory that would hold them. */
+static void most_records(void)
+{
+    size_t size = 65536 * (size_t)LOMQASHE_RECORD_SIZE;
+    uint8_t *in = calloc(2, size), *out = in + size;
+    check(in != NULL, "memory for 65,536 records");
+    in[65534 * LOMQASHE_RECORD_SIZE] = 7;
+    expect_refusal(lomqashe_store(in, size, 65536, out, size), 16, "store of 65,536");
+    expect_refusal(lomqashe_restore(in, size, 65536, out, size), 16, "restore of 65,536");
+    size -= LOMQASHE_RECORD_SIZE;
+    answer = lomqashe_store(in, size, 65535, out, size);
+    check(answer == 0 && out[65533] == 0 && out[65534] == 7 && out[65535] == 0, "store of 65,535");
+    memset(in, 0xa5, size);
+    answer = lomqashe_restore(out, size, 65535, in, size);
+    check(answer == 0 && in[65533 * LOMQASHE_RECORD_SIZE] == 0 && in[65534 * LOMQASHE_RECORD_SIZE] == 7,
+          "restore of 65,535");
+    free(in);
+}
+
+/* The file's rows in column order and back; speeds 6, 6 and 3 are 6, 0 and -3. Bytes behind the columns stay. */
+static void column_order(void)
+{
+    const size_t m = 3, size = 3 * LOMQASHE_RECORD_SIZE;
+    static const uint8_t speeds[] = {6, 0, 253};
+    measure();
+    lend_tables();
+    read_tables();
+    open_tune();
+    section();
+    check(LOMQASHE_ROWS(answer) == m, "three rows");
+    memset(columns, 0xa5, sizeof columns);
+    memset(restored, 0xa5, sizeof restored);
+    answer = lomqashe_store(records, size, m, columns, size);
+    check(answer == 0 && columns[size] == 0xa5 && memcmp(columns + 4 * m, speeds, m) == 0, "store");
+    for (size_t c = 0; c < LOMQASHE_RECORD_SIZE; c++)
+        for (size_t r = 0; r < m; r++) {
+            uint8_t before = r ? records[(r - 1) * LOMQASHE_RECORD_SIZE + c] : 0;
+            check(columns[c * m + r] == (uint8_t)(records[r * LOMQASHE_RECORD_SIZE + c] - before), "a stored byte");
+        }
+    answer = lomqashe_restore(columns, size, m, restored, size);
+    check(answer == 0 && restored[size] == 0xa5 && memcmp(restored, records, size) == 0, "restore");
+    answer = lomqashe_restore(records, size, m, restored, size);
+    check(answer == 0 && memcmp(restored, records, size) != 0, "restore of what is not stored");
+    answer = lomqashe_store(restored, size, m, columns, size);
+    check(answer == 0 && memcmp(columns, records, size) == 0, "store behind restore");
+    column_refusals();
+    most_records();
+    give_tables_back();
+}
+
 #define STACK 65536
 #define MOST_STACK 32768
 #define PAINT 0xa5
@@ -372,8 +466,8 @@ static size_t stack_of(void (*call)(void))
 /* The second section starts where the first stopped. */
 static void stacks(void)
 {
-    void (*calls[])(void) = {read_tables, is_closed,    open_closed, open_tune, section,
-                             section,     list_strikes, write_line,  load_row};
+    void (*calls[])(void) = {read_tables,  is_closed,  open_closed, open_tune,  section,     section,
+                             list_strikes, write_line, load_row,    store_rows, restore_rows};
     check(stack_of(measure) <= MOST_STACK, "stack of measure");
     lend_tables();
     for (size_t i = 0; i < sizeof calls / sizeof *calls; i++) {
@@ -396,6 +490,8 @@ int main(int argc, char **argv)
         transposed();
     } else if (strcmp(argv[1], "head") == 0) {
         punch_head();
+    } else if (strcmp(argv[1], "columns") == 0) {
+        column_order();
     } else if (strcmp(argv[1], "stack") == 0) {
         stacks();
     } else {
