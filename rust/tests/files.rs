@@ -117,11 +117,14 @@ fn nothing_is_written_over_the_tune() {
 fn files_written_are_apart_from_each_other_and_from_the_state_read() {
     let folder = Folder::new("apart");
     let (one, state) = (folder.path("one"), folder.path("state"));
-    assert_eq!(
-        run(&["--svg", &one, "--save", &one, WORKED], b"").status.code(),
-        Some(2)
-    );
-    assert!(!fs::exists(&one).unwrap());
+    fs::create_dir(folder.path("inner")).unwrap();
+    // Another name of a file that is not there yet, too.
+    for other in [&one, &folder.path("inner/../one")] {
+        let output = run(&["--svg", &one, "--save", other, WORKED], b"");
+        assert_eq!(output.status.code(), Some(2));
+        assert!(text(&output.stderr).contains("--svg and --save name one file"));
+        assert!(!fs::exists(&one).unwrap());
+    }
     assert_eq!(
         run(&["--rows", "1", "--save", &state, WORKED], b"").status.code(),
         Some(0)

@@ -3,6 +3,7 @@
 use super::Trouble;
 use super::args::Args;
 use lomqashe::State;
+use std::ffi::OsString;
 use std::fs::{self, File, Metadata};
 use std::io::{self, Read};
 use std::os::fd::AsFd;
@@ -25,39 +26,83 @@ pub fn read_tune(file: Option<&Path>) -> Result<Vec<u8>, Trouble> {
 /// Nothing is written over a file that is read, whatever its name there, nor two things into one file. A state may be saved
 /// over the one that was gone on from.
 pub fn keep_apart(args: &Args) -> Result<(), Trouble> {
-    let (svg, save) = (args.svg.as_deref(), args.save.as_deref());
-    let tune = match &args.file {
-        Some(path) => fs::metadata(path),
-        None => standard_input(),
-    };
-    let tune = tune.ok().and_then(identity);
-    for (option, path) in [("--svg", svg), ("--save", save)] {
-        if tune.is_some() && tune == path.and_then(file_at) {
-            return Err(Trouble::Usage(format!("{option} names the tune that is read")));
+    let read = files_read(args);
+    let written = files_written(args);
+    for (i, (option, file)) in written.iter().enumerate() {
+        for (name, other) in &read {
+            let is_allowed = *option == SAVE && *name == STATE_READ;
+            if file == other && !is_allowed {
+                return Err(Trouble::Usage(format!("{option} names the {name} that is read")));
+            }
+        }
+        if let Some((earlier, _)) = written[..i].iter().find(|(_, other)| file == other) {
+            return Err(Trouble::Usage(format!("{earlier} and {option} name one file")));
         }
     }
-    let from = args.from.as_deref().and_then(file_at);
-    if from.is_some() && from == svg.and_then(file_at) {
-        return Err(Trouble::Usage("--svg names the state that is read".into()));
-    }
-    let saved = save.and_then(file_at);
-    if svg.is_some() && svg == save || saved.is_some() && saved == svg.and_then(file_at) {
-        return Err(Trouble::Usage("--svg and --save name one file".into()));
-    }
     Ok(())
+}
+
+const SAVE: &str = "--save";
+const STATE_READ: &str = "state";
+
+/// The files that are read, by what they have.
+fn files_read(args: &Args) -> Vec<(&'static str, FileId)> {
+    let state = args.from.as_deref().and_then(file_at);
+    let tune = match &args.file {
+        Some(path) => file_at(path),
+        None => standard_input().ok().and_then(|found| FileId::of(&found)),
+    };
+    let files = [("tune", tune), (STATE_READ, state)];
+    files
+        .into_iter()
+        .filter_map(|(name, file)| Some((name, file?)))
+        .collect()
+}
+
+/// The files that are written, by the options that name them.
+fn files_written(args: &Args) -> Vec<(&'static str, FileId)> {
+    let files = [("--svg", &args.svg), (SAVE, &args.save)];
+    files
+        .into_iter()
+        .filter_map(|(option, path)| Some((option, file_at(path.as_deref()?)?)))
+        .collect()
 }
 
 fn standard_input() -> io::Result<Metadata> {
     File::from(io::stdin().as_fd().try_clone_to_owned()?).metadata()
 }
 
-fn file_at(path: &Path) -> Option<(u64, u64)> {
-    fs::metadata(path).ok().and_then(identity)
+/// What makes two names those of one file: its device and inode, or where there is no file yet those of its folder and its
+/// name there.
+#[derive(PartialEq)]
+struct FileId {
+    device: u64,
+    inode: u64,
+    name: Option<OsString>,
 }
 
-/// A regular file's device and inode, which are one whatever it is called.
-fn identity(found: Metadata) -> Option<(u64, u64)> {
-    found.is_file().then(|| (found.dev(), found.ino()))
+impl FileId {
+    /// Of a regular file.
+    fn of(found: &Metadata) -> Option<FileId> {
+        found.is_file().then(|| FileId::at(found, None))
+    }
+
+    fn at(found: &Metadata, name: Option<OsString>) -> FileId {
+        FileId {
+            device: found.dev(),
+            inode: found.ino(),
+            name,
+        }
+    }
+}
+
+fn file_at(path: &Path) -> Option<FileId> {
+    if let Ok(found) = fs::metadata(path) {
+        return FileId::of(&found);
+    }
+    let folder = path.parent()?;
+    let found = fs::metadata(Path::new(".").join(folder)).ok()?;
+    Some(FileId::at(&found, Some(path.file_name()?.to_owned())))
 }
 
 /// What `--save` writes: these letters, the rows so far as 8 bytes with the low one first, and the state.
