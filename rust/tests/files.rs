@@ -3,35 +3,12 @@
 
 mod common;
 
-use common::{B, Folder, LOMQASHE, S, SHEET, WORKED, file, note, put, run, text};
+use common::{Folder, LOMQASHE, SHEET, WORKED, endless, held, run, text, unread};
 use std::ffi::OsString;
+use std::fs;
 use std::os::unix::ffi::OsStringExt;
 use std::os::unix::fs::symlink;
-use std::process::{Command, Output, Stdio};
-use std::{fs, io};
-
-/// Goes back to its first row from row 3: rows 0 to 3 for ever.
-fn endless() -> Vec<u8> {
-    file(&[0], &[&[note(0, 0), put(3, 0, B, 0)]])
-}
-
-/// Rows 0, 1 (held twice more) and 2, with two strikes: five rows.
-fn held() -> Vec<u8> {
-    file(&[0], &[&[note(0, 0), put(1, 1, S, 0xE2), note(2, 0), put(2, 1, B, 9)]])
-}
-
-/// Runs the command with a standard output that nobody reads.
-fn unread(words: &[&str]) -> Output {
-    let (reader, writer) = io::pipe().expect("a pipe");
-    drop(reader);
-    let child = Command::new(LOMQASHE)
-        .args(words)
-        .stdin(Stdio::null())
-        .stdout(writer)
-        .stderr(Stdio::piped())
-        .spawn();
-    child.and_then(|child| child.wait_with_output()).expect("it ends")
-}
+use std::process::{Command, Stdio};
 
 #[test]
 fn files_are_written_though_nobody_reads_the_sheet() {
@@ -67,10 +44,14 @@ fn a_refusal_is_told_though_nobody_reads_the_sheet() {
 fn memory_does_not_grow_with_the_rows() {
     let folder = Folder::new("memory");
     let tune = folder.write("endless.s3m", &endless());
-    let svg = folder.path("book.svg");
+    let (svg, records) = (folder.path("book.svg"), folder.path("records"));
     // Records of these rows have 43 million bytes, and their lines and drawing some more: 32 million are lent. The card is
     // slow, so that the drawing is not too large.
-    for words in [&["--channels"][..], &["--svg", &svg, "--rate", "500"]] {
+    for words in [
+        &["--channels"][..],
+        &["--svg", &svg, "--rate", "500"],
+        &["--records", &records],
+    ] {
         let output = Command::new("sh")
             .args([
                 "-c",
@@ -87,6 +68,7 @@ fn memory_does_not_grow_with_the_rows() {
         assert_eq!(output.status.code(), Some(0), "{words:?}: {}", text(&output.stderr));
     }
     assert!(fs::metadata(&svg).unwrap().len() > 3_000_000);
+    assert_eq!(fs::metadata(&records).unwrap().len(), 80_000 * 536);
 }
 
 #[test]

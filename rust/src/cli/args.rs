@@ -10,7 +10,7 @@ use std::path::PathBuf;
 pub enum Wish {
     Help,
     Version,
-    Sheet(Args),
+    Sheet(Box<Args>),
 }
 
 pub struct Args {
@@ -28,6 +28,10 @@ pub struct Args {
     pub svg: Option<PathBuf>,
     pub save: Option<PathBuf>,
     pub from: Option<PathBuf>,
+    pub records: Option<PathBuf>,
+    pub columns: Option<PathBuf>,
+    /// A stored file, whose sheet is printed: no tune is read.
+    pub restore: Option<PathBuf>,
 }
 
 impl Default for Args {
@@ -44,6 +48,9 @@ impl Default for Args {
             svg: None,
             save: None,
             from: None,
+            records: None,
+            columns: None,
+            restore: None,
         }
     }
 }
@@ -133,6 +140,7 @@ fn semitones(text: &str) -> Option<i8> {
 pub fn parse(mut words: impl Iterator<Item = OsString>) -> Result<Wish, String> {
     let mut args = Args::default();
     let mut files = Vec::new();
+    let mut named = Vec::new();
     let mut options = true;
     while let Some(word) = words.next() {
         if !options || word == "-" || !word.as_bytes().starts_with(b"-") {
@@ -147,20 +155,47 @@ pub fn parse(mut words: impl Iterator<Item = OsString>) -> Result<Wish, String> 
                 word.alone()?;
                 options = false;
             }
-            _ => option(&mut args, &word, &mut words)?,
+            _ => {
+                option(&mut args, &word, &mut words)?;
+                named.push(word.name);
+            }
         }
     }
     if files.len() > 1 {
         return Err("more than one file is named".into());
     }
-    if args.from.is_some() && args.rate.is_some() {
-        return Err("--rate does not go with --from: a state has its card's rate".into());
+    if args.restore.is_some() {
+        go_with_restore(&named, &files)?;
     }
-    if args.from.is_some() && args.transpositions.is_some() {
-        return Err("--transpose does not go with --from: a state has its channels' transpositions".into());
+    if args.from.is_some() {
+        go_with_from(&args)?;
     }
     args.file = files.pop().filter(|file| file.as_os_str() != "-");
-    Ok(Wish::Sheet(args))
+    Ok(Wish::Sheet(args.into()))
+}
+
+/// What is printed of a record, and where the records are written.
+const WITH_RESTORE: [&str; 4] = ["--restore", "--strikes", "--channels", "--records"];
+
+fn go_with_restore(options: &[String], files: &[PathBuf]) -> Result<(), String> {
+    let other = options.iter().find(|name| !WITH_RESTORE.contains(&name.as_str()));
+    let tune = files.first().map(|_| "a tune");
+    match other.map(String::as_str).or(tune) {
+        Some(what) => Err(format!(
+            "{what} does not go with --restore, which reads a stored sheet and no tune"
+        )),
+        None => Ok(()),
+    }
+}
+
+fn go_with_from(args: &Args) -> Result<(), String> {
+    if args.rate.is_some() {
+        return Err("--rate does not go with --from: a state has its card's rate".into());
+    }
+    if args.transpositions.is_some() {
+        return Err("--transpose does not go with --from: a state has its channels' transpositions".into());
+    }
+    Ok(())
 }
 
 fn option(args: &mut Args, word: &Word, words: &mut impl Iterator<Item = OsString>) -> Result<(), String> {
@@ -186,6 +221,9 @@ fn option(args: &mut Args, word: &Word, words: &mut impl Iterator<Item = OsStrin
         "--svg" => args.svg = word.path(words)?,
         "--save" => args.save = word.path(words)?,
         "--from" => args.from = word.path(words)?,
+        "--records" => args.records = word.path(words)?,
+        "--columns" => args.columns = word.path(words)?,
+        "--restore" => args.restore = word.path(words)?,
         name => return Err(format!("there is no option {name}")),
     }
     Ok(())

@@ -2,7 +2,7 @@
 
 use super::Trouble;
 use super::args::Args;
-use lomqashe::State;
+use lomqashe::{MOST_ROWS, RECORD_BYTES, State};
 use std::ffi::OsString;
 use std::fs::{self, File, Metadata};
 use std::io::{self, Read};
@@ -21,6 +21,15 @@ pub fn read_tune(file: Option<&Path>) -> Result<Vec<u8>, Trouble> {
             Ok(bytes)
         }
     }
+}
+
+/// The bytes of a stored file, but at most one more than the most records have: it is then refused whatever its length.
+pub fn read_columns(path: &Path) -> Result<Vec<u8>, Trouble> {
+    const MOST_BYTES: u64 = MOST_ROWS as u64 * RECORD_BYTES as u64;
+    let mut bytes = Vec::new();
+    let read = File::open(path).and_then(|file| file.take(MOST_BYTES + 1).read_to_end(&mut bytes));
+    read.map_err(|why| Trouble::file(path, why))?;
+    Ok(bytes)
 }
 
 /// Nothing is written over a file that is read, whatever its name there, nor two things into one file. A state may be saved
@@ -47,12 +56,14 @@ const STATE_READ: &str = "state";
 
 /// The files that are read, by what they have.
 fn files_read(args: &Args) -> Vec<(&'static str, FileId)> {
+    let stored = args.restore.as_deref().and_then(file_at);
     let state = args.from.as_deref().and_then(file_at);
-    let tune = match &args.file {
-        Some(path) => file_at(path),
-        None => standard_input().ok().and_then(|found| FileId::of(&found)),
+    let tune = match (&args.restore, &args.file) {
+        (Some(_), _) => None,
+        (None, Some(path)) => file_at(path),
+        (None, None) => standard_input().ok().and_then(|found| FileId::of(&found)),
     };
-    let files = [("tune", tune), (STATE_READ, state)];
+    let files = [("stored sheet", stored), ("tune", tune), (STATE_READ, state)];
     files
         .into_iter()
         .filter_map(|(name, file)| Some((name, file?)))
@@ -61,7 +72,12 @@ fn files_read(args: &Args) -> Vec<(&'static str, FileId)> {
 
 /// The files that are written, by the options that name them.
 fn files_written(args: &Args) -> Vec<(&'static str, FileId)> {
-    let files = [("--svg", &args.svg), (SAVE, &args.save)];
+    let files = [
+        ("--svg", &args.svg),
+        (SAVE, &args.save),
+        ("--records", &args.records),
+        ("--columns", &args.columns),
+    ];
     files
         .into_iter()
         .filter_map(|(option, path)| Some((option, file_at(path.as_deref()?)?)))

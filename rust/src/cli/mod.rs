@@ -4,12 +4,13 @@ mod args;
 mod drawing;
 mod files;
 mod sheet;
+mod stored;
 mod walk;
 
 use args::{Args, Wish};
 use drawing::{Drawing, Plan};
 use files::Saved;
-use lomqashe::{Breach, Refusal, Repeat, State, Tune};
+use lomqashe::{Breach, MOST_ROWS, Refusal, Repeat, State, Tune};
 use sheet::Printer;
 use std::ffi::OsString;
 use std::fs::File;
@@ -37,16 +38,22 @@ Reads standard input where no file is named, or where it is -.
   --svg FILE      draw the book: the card along, 32 channels across, a slot for each strike
   --save FILE     write the state behind the last row to a file
   --from FILE     go on from a state that --save wrote, with the same tune
+  --records FILE  write the records of the rows as they are, 536 bytes each
+  --columns FILE  write them in column order for an archive, as lomqashe_store does; 1 to 65535 rows
+  --restore FILE  print the sheet of a file that --columns wrote, and say `restored`; no tune is read, and of the others
+                  only --strikes, --channels and --records go with it
   --help, --version
 
-The last line of a sheet has the rows and the card's length so far behind `end`, `more` or `repeats`, or a rule's number
-behind `refused`. With --from both count from the tune's opening, so that the first sheet without its last line and the
-next without its title are the sheet of both: head -n -1 FIRST; tail -n +2 NEXT.
+The last line of a sheet has the rows and the card's length so far behind `end`, `more`, `repeats` or `restored`, or a
+rule's number behind `refused`. With --from both count from the tune's opening, so that the first sheet without its last
+line and the next without its title are the sheet of both: head -n -1 FIRST; tail -n +2 NEXT.
 
-The drawing and the state are written whatever becomes of standard output, and never over the tune.
+Files are written whatever becomes of standard output, never two into one, and never over one that is read; but a state may
+be saved over the one that was gone on from.
 
-Exit status: 0, also where the reader of standard output has gone; 1 where the tune or the state is refused, its rule told
-on standard error; 2 where the command line is wrong, or a file cannot be read or written.
+Exit status: 0, also where the reader of standard output has gone; 1 where the tune, the state, the rows for --columns or
+the file of --restore are refused, the rule told on standard error; 2 where the command line is wrong, or a file cannot be
+read or written.
 ";
 
 /// 60 mm of card a second.
@@ -120,7 +127,10 @@ fn answer(words: impl Iterator<Item = OsString>) -> Result<(), Trouble> {
     match args::parse(words).map_err(Trouble::Usage)? {
         Wish::Help => out.write_all(HELP.as_bytes()).map_err(Trouble::Output)?,
         Wish::Version => writeln!(out, "lomqashe {}", env!("CARGO_PKG_VERSION")).map_err(Trouble::Output)?,
-        Wish::Sheet(args) => print(&args, &mut out)?,
+        Wish::Sheet(args) => match &args.restore {
+            Some(stored) => stored::print_restored(stored, &args, &mut out)?,
+            None => print(&args, &mut out)?,
+        },
     }
     out.flush().map_err(Trouble::Output)
 }
@@ -144,7 +154,9 @@ fn print(args: &Args, out: &mut impl Write) -> Result<(), Trouble> {
     }
     let saved = save(&run, &end, args);
     let drawn = draw(&run, &plan, end.ended, args);
-    saved.and(drawn).and(sheet)
+    let recorded = stored::write_records(&run, args);
+    let stored = stored::write_columns(&run, args);
+    saved.and(drawn).and(recorded).and(stored).and(sheet)
 }
 
 /// The rows that were printed, and where they stopped.
@@ -171,7 +183,7 @@ fn print_rows(
     let end = run.walk(|row| {
         printer.row(&row.record);
         plan.see(row);
-        printer.is_open() || args.save.is_some() || args.svg.is_some() && plan.layout().is_ok()
+        printer.is_open() || is_wanted(args, plan)
     })?;
     let word = match (end.ended, repeat) {
         (true, _) => "end",
@@ -181,6 +193,14 @@ fn print_rows(
     printer.last(word, run.counted(end.rows), end.state.start());
     run.most = end.rows;
     Ok(Printed { run, end, repeat })
+}
+
+/// Whether a file needs the rows behind those that were seen.
+fn is_wanted(args: &Args, seen: &Plan) -> bool {
+    args.save.is_some()
+        || args.records.is_some()
+        || args.columns.is_some() && seen.rows <= MOST_ROWS.into()
+        || args.svg.is_some() && seen.layout().is_ok()
 }
 
 /// A tune that goes on from a saved state is asked to be closed too.

@@ -4,7 +4,7 @@
 use std::io::Write;
 use std::path::{Path, PathBuf};
 use std::process::{Command, Output, Stdio};
-use std::{env, fs, process};
+use std::{env, fs, io, process};
 
 pub const LOMQASHE: &str = env!("CARGO_BIN_EXE_lomqashe");
 pub const WORKED: &str = concat!(env!("CARGO_MANIFEST_DIR"), "/../oracle/examples/worked.s3m");
@@ -20,6 +20,19 @@ pub fn run(words: &[&str], input: &[u8]) -> Output {
         .expect("the command starts");
     let _ = child.stdin.take().expect("it was piped").write_all(input);
     child.wait_with_output().expect("it ends")
+}
+
+/// Runs the command with a standard output that nobody reads.
+pub fn unread(words: &[&str]) -> Output {
+    let (reader, writer) = io::pipe().expect("a pipe");
+    drop(reader);
+    let child = Command::new(LOMQASHE)
+        .args(words)
+        .stdin(Stdio::null())
+        .stdout(writer)
+        .stderr(Stdio::piped())
+        .spawn();
+    child.and_then(|child| child.wait_with_output()).expect("it ends")
 }
 
 pub fn text(bytes: &[u8]) -> &str {
@@ -120,6 +133,16 @@ pub fn file(orders: &[u8], patterns: &[&[Put]]) -> Vec<u8> {
         out[pointers + 2 * i..][..2].copy_from_slice(&pointer.to_le_bytes());
     }
     out
+}
+
+/// Goes back to its first row from row 3: rows 0 to 3 for ever.
+pub fn endless() -> Vec<u8> {
+    file(&[0], &[&[note(0, 0), put(3, 0, B, 0)]])
+}
+
+/// Rows 0, 1 (held twice more) and 2, with two strikes: five rows.
+pub fn held() -> Vec<u8> {
+    file(&[0], &[&[note(0, 0), put(1, 1, S, 0xE2), note(2, 0), put(2, 1, B, 9)]])
 }
 
 /// Fills up to the next place that a pointer can name, and gives the pointer.
