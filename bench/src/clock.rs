@@ -7,8 +7,13 @@ const ROUND: Duration = Duration::from_millis(10);
 
 /// The best time of each in nanoseconds; they take turns, so that all meet the same machine.
 pub fn best<const N: usize>(works: &mut [&mut dyn FnMut(); N]) -> [f64; N] {
+    best_of(ROUNDS, works)
+}
+
+/// The same of so many rounds.
+pub fn best_of<const N: usize>(rounds: usize, works: &mut [&mut dyn FnMut(); N]) -> [f64; N] {
     let mut best = [f64::INFINITY; N];
-    for _ in 0..ROUNDS {
+    for _ in 0..rounds {
         for (work, best) in works.iter_mut().zip(&mut best) {
             *best = best.min(round(*work));
         }

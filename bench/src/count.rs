@@ -1,8 +1,8 @@
 //! One work, once, for a tool that counts instructions: it counts what `counted_work` does. `bench/count` runs it.
 
 use crate::rows::{SECTION, ours, walk};
-use crate::tunes::Kind;
-use crate::{closed, head, path, reading, records, strikes};
+use crate::tunes::{Kind, SEEDS};
+use crate::{closed, columns, head, path, reading, records, strikes};
 use lomqashe::RECORD_BYTES;
 use oracle::player::bridge::{Original, open};
 use oracle::writer;
@@ -83,5 +83,28 @@ pub fn head(name: &str, library: bool) -> bool {
     let strikes = if library { head::library } else { head::plain };
     counted_work(&mut || strikes(&records));
     println!("{}", records.len());
+    true
+}
+
+/// Stores records, or restores them, in the named way, and prints how many there are. False: there is no such way.
+pub fn columns(store: bool, name: &str) -> bool {
+    let Some(way) = ["library", "by-columns", "by-records"]
+        .iter()
+        .position(|way| *way == name)
+    else {
+        return false;
+    };
+    let m = 5_000;
+    let [records, stored] = columns::both(SEEDS[0], m);
+    let (call, input) = if store {
+        (columns::STORES[way], records)
+    } else {
+        (columns::RESTORES[way], stored)
+    };
+    let mut output = input.clone();
+    counted_work(&mut || {
+        black_box(call(&input, m as u32, &mut output));
+    });
+    println!("{m}");
     true
 }

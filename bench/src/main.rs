@@ -1,9 +1,10 @@
 //! Times the library beside the original, on the same tunes in one run: walking rows, and reading files; its lists of
-//! strikes beside a sort, its answer whether a tune is closed beside a loop, and its punch head beside plain Rust. README.md
-//! says what each column is.
+//! strikes beside a sort, its answer whether a tune is closed beside a loop, and its punch head and its columns beside plain
+//! Rust. README.md says what each column is.
 
 mod clock;
 mod closed;
+mod columns;
 mod count;
 mod head;
 mod path;
@@ -16,7 +17,7 @@ mod tunes;
 use std::process::ExitCode;
 use tunes::Kind;
 
-const USAGE: &str = "usage: bench/run [rows | sections | strikes | closed | head | reading]";
+const USAGE: &str = "usage: bench/run [rows | sections | strikes | closed | head | columns | reading]";
 
 fn main() -> ExitCode {
     let words: Vec<String> = std::env::args().skip(1).collect();
@@ -34,8 +35,10 @@ fn main() -> ExitCode {
             println!();
             let struck = head::table();
             println!();
+            let stored = columns::table();
+            println!();
             reading::table();
-            same && listed && closed && struck
+            same && listed && closed && struck && stored
         }
         ["rows"] => rows::table(),
         ["sections"] => {
@@ -45,6 +48,7 @@ fn main() -> ExitCode {
         ["strikes"] => strikes::table(),
         ["closed"] => closed::table(),
         ["head"] => head::table(),
+        ["columns"] => columns::table(),
         ["reading"] => {
             reading::table();
             true
@@ -52,6 +56,7 @@ fn main() -> ExitCode {
         ["count", name, work @ ("strikes" | "sort")] => count::strikes(name, work == "strikes"),
         ["count", name, work @ ("closed" | "loop")] => count::closed(name, work == "closed"),
         ["count", name, work @ ("head" | "plain")] => count::head(name, work == "head"),
+        ["count", call @ ("store" | "restore"), way] => count::columns(call == "store", way),
         ["count", kind, work] => Kind::named(kind).is_some_and(|kind| count::run(kind, work)),
         _ => {
             eprintln!("{USAGE}");

@@ -1,7 +1,7 @@
-//! The records that are listed, loaded and struck: rows of several tunes.
+//! The records that are listed, loaded, struck and stored: rows of several tunes.
 
 use crate::rows::ours;
-use crate::tunes::{Kind, SEEDS};
+use crate::tunes::{KINDS, Kind, SEEDS};
 use lomqashe::Record;
 
 /// The rows of a tune's four patterns, and the tunes: of fewer lists the machine learns how a sort's comparisons go.
@@ -21,4 +21,12 @@ fn of_tunes(kind: &Kind, seed: u64) -> Vec<Record> {
         .map(|seed| ours(&kind.tune(seed)));
     let rows = tunes.flat_map(|tune| tune.rows(50).expect("it opens").take(ROWS).collect::<Vec<_>>());
     rows.collect()
+}
+
+/// The bytes of so many records: as many rows of a tune of each kind, one kind behind the other.
+pub fn mixed(seed: u64, records: usize) -> Vec<u8> {
+    let each = records.div_ceil(KINDS.len());
+    let tunes = KINDS.iter().map(|kind| ours(&kind.tune(seed)));
+    let rows = tunes.flat_map(|tune| tune.rows(1_000).expect("it opens").take(each).collect::<Vec<_>>());
+    rows.take(records).flat_map(|record| *record.as_bytes()).collect()
 }
