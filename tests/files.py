@@ -29,14 +29,23 @@ def packed(row):
     return b"".join(bytes([0x80 + k, ord(cell[0]) - 64, int(cell[1:], 16)]) for k, cell in cells) + b"\0"
 
 
+def laid_out(orders, instruments, patterns, *edits):
+    """The file of orders, instruments of 80 bytes and packed patterns, with edits of its header."""
+    sizes = [(32, word(len(orders))), (34, word(len(instruments))), (36, word(len(patterns)))]
+    file = edited(HEADER, *sizes, *edits) + bytes(orders)
+    pointers = len(file)
+    parts = [*instruments, *(word(len(pattern) + 2) + pattern for pattern in patterns)]
+    file += bytes(2 * len(parts))
+    for k, part in enumerate(parts):
+        place = (len(file) + 15) // 16
+        file = edited(file.ljust(place * 16, b"\0") + part, (pointers + 2 * k, word(place)))
+    return file
+
+
 def tune(orders, rows, off=(), tempo=125):
     """The file of a tune. The channels named by `off` are turned off in its header."""
-    sizes = [(32, word(len(orders))), (34, word(0)), (36, word(1))]
-    header = edited(HEADER, *sizes, (50, [tempo]), *((SETTINGS + k, [OFF]) for k in off))
-    place = (len(header) + len(orders) + 2 + 15) // 16
-    lists = header + bytes(orders) + word(place)
     pattern = b"".join(packed(rows.get(row, "")) for row in range(64))
-    return lists.ljust(place * 16, b"\0") + word(len(pattern) + 2) + pattern
+    return laid_out(orders, [], [pattern], (50, [tempo]), *((SETTINGS + k, [OFF]) for k in off))
 
 
 PLAYERS = {

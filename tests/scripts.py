@@ -160,6 +160,33 @@ def linked_cases(tools, folder):
         yield f"{script}, no archive", holds(asked(LOMQASHE_ARCHIVE="none"), 2, "", "no folder none")
 
 
+def books_cases(tools, folder):
+    """bench/books in a repository of its own, with a command that takes the book itself for its records and its columns."""
+    repository = folder / "repository"
+    for name in ("bench/books", "tests/files.py", "oracle/examples/worked.s3m"):
+        (repository / name).parent.mkdir(parents=True, exist_ok=True)
+        shutil.copy(ROOT / name, repository / name)
+
+    def books(*words):
+        return run(repository / "bench/books", *words, here=folder, tools=tools)
+
+    release = repository / "rust/target/release"
+    release.mkdir(parents=True)
+    stand_in(tools, "gzip", "cat")
+    stand_in(tools, "xz", "cat")
+    yield "--help", holds(books("--help"), 0, None)
+    yield "a wrong word", holds(books("--rows"), 2, "", "usage: bench/books")
+    yield "no command", holds(books(), 2, "", "lomqashe is not here")
+    stand_in(release, "lomqashe", 'case $1 in --restore) cp "$2" "$4" ;; *) cp "$5" "$2" && cp "$5" "$4" ;; esac')
+    status, printed, said = books("kept")
+    yield "a table", holds((status, str(printed.count("| 1.00 |")), said), 0, "8")
+    yield "its files", holds((0, str(len(list((folder / "kept").iterdir()))), ""), 0, "16")
+    stand_in(release, "lomqashe", 'case $1 in --restore) : >"$4" ;; *) cp "$5" "$2" && cp "$5" "$4" ;; esac')
+    yield "other records", holds(books(), 1, None, "march: the columns do not give the records")
+    stand_in(release, "lomqashe", "exit 1")
+    yield "a command that refuses", holds(books(), 2, None, "status 1")
+
+
 def newer(file, other):
     at = other.stat().st_mtime + 5
     os.utime(file, (at, at))
@@ -169,7 +196,7 @@ def main():
     total = wrong = 0
     with tempfile.TemporaryDirectory() as scratch:
         scratch = pathlib.Path(scratch)
-        for cases in (sheet_cases, prove_cases, linked_cases):
+        for cases in (sheet_cases, prove_cases, linked_cases, books_cases):
             tools, folder = scratch / f"{cases.__name__}-tools", scratch / cases.__name__
             folder.mkdir()
             stand_in(tools, "rt", "echo 'rt: laws proved (unchanged since it was last proved)'")
