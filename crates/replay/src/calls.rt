@@ -7,7 +7,9 @@ use lomqashe::lomqashe_measure;
 use lomqashe::lomqashe_open;
 use lomqashe::lomqashe_open_closed;
 use lomqashe::lomqashe_read;
+use lomqashe::lomqashe_restore;
 use lomqashe::lomqashe_section;
+use lomqashe::lomqashe_store;
 use lomqashe::lomqashe_strikes;
 
 // In place of an answer where there is no such function: no answer that has 255 in its high byte has more in the others.
@@ -33,6 +35,8 @@ pub fn call(
         7 => lomqashe_is_closed(s0, s1, s2),
         8 => lomqashe_open_closed(s0, s1, s2, s3, s4),
         9 => lomqashe_head_step(s0, number, s1),
+        10 => lomqashe_store(s0, number, s1),
+        11 => lomqashe_restore(s0, number, s1),
         _ => UNKNOWN,
     }
 }
@@ -53,6 +57,8 @@ pub fn print_name(function: usize) -> bool {
         7 => print(b"is_closed"),
         8 => print(b"open_closed"),
         9 => print(b"head_step"),
+        10 => print(b"store"),
+        11 => print(b"restore"),
         _ => false,
     }
 }
