@@ -1,6 +1,7 @@
 pub mod Differences
 pub mod Grids
 pub mod Inverse
+pub mod Alike
 pub mod Sizes
 pub mod Trips
 pub mod Writing

@@ -24,15 +24,11 @@ use Rattle.noninterference.specs.Calls.{Call, recordsIn}
 use Rattle.noninterference.specs.Machines.{opened, pathOf, machineRecords}
 use Rattle.noninterference.specs.Kept.{headIn, strikeIn, Same, Faithful}
 use Rattle.noninterference.specs.Made.{callOf, MadeOn, readBack}
-use Rattle.noninterference.specs.Heads.{Drive, sheetOf, callsOn, HeadsKept, HeadsHoweverRevoiced}
+use Rattle.noninterference.specs.Sheets.{sheetOf}
+use Rattle.noninterference.specs.Heads.{Drive, callsOn, HeadsKept, HeadsHoweverRevoiced}
 use Rattle.noninterference.proofs.Views.{opened-channels}
+use Rattle.noninterference.proofs.Sheets.{record-length, entry-alike, count-alike}
 use Rattle.noninterference.proofs.Theorem.{channels-kept, made-kept, opened-lent}
-
--- a view of joined lists is the joined views
-joined-map : {X Y Z : Type 0} (f : Y → Z) (g : X → List Y) (xs : List X) → joined (map (λ x. map f (g x)) xs) ≡ map f (joined (map g xs))
-unfolding joined
-joined-map f g [] = refl
-joined-map f g (x ∷ xs) = ap (λ l. map f (g x) ++ l) (joined-map f g xs) ∙ sym (map-append f (g x) (joined (map g xs)))
 
 -- a record's start stands in its head
 start-in : (r : List ℕ) → length r ≡ 536 → rowStart r ≡ take 8 (drop 8 (headIn r))
@@ -46,31 +42,11 @@ start-in r e =
     ∙ ap (take 8) (drop-at (take 8 r) (rowStart r ++ rest) 8 a)
     ∙ take-at (rowStart r) rest 8 b)
 
--- each of the machines' records has 536 bytes
-machine-length : (u : Tune) → Lent u → (n i : ℕ) → i < length (machineRecords u n) → length (getD (machineRecords u n) i []) ≡ 536
-unfolding machineRecords
-machine-length u l n i = each-length (u .tables) (opened u .switches) (pathOf u n .rows) (voicesOf (opened u)) i (opened-channels u l)
-
--- so has each of a list of calls
-record-length : (u : Tune) (cs : List Call) (xs : List Answer) → Lent u → Faithful u cs xs → (i : ℕ) → i < length (sheetOf xs) → length (getD (sheetOf xs) i []) ≡ 536
-unfolding sheetOf
-record-length u cs xs l f i = subst (λ (rs : List (List ℕ)). i < length rs → length (getD rs i []) ≡ 536) (sym (f .records)) (machine-length u l _ i)
-
 -- answers that demand 3 speaks of: the records of one number are alike, and so are the commands that come with them
 module _ (chosen : ℕ → Bool) (A B : Tune) (cs ds : List Call) (xs ys : List Answer) (lA : Lent A) (lB : Lent B) (same : Same chosen xs ys) (a : Faithful A cs xs) (b : Faithful B ds ys) where
-  sheets-alike : {Z : Type 0} (f : List ℕ → Z) → map (λ x. map f (recordsIn x)) xs ≡ map (λ x. map f (recordsIn x)) ys → map f (sheetOf xs) ≡ map f (sheetOf ys)
-  unfolding sheetOf
-  sheets-alike f e = sym (joined-map f recordsIn xs) ∙ ap joined e ∙ joined-map f recordsIn ys
-
-  entry-alike : {Z : Type 0} (f : List ℕ → Z) → map (λ x. map f (recordsIn x)) xs ≡ map (λ x. map f (recordsIn x)) ys → (i : ℕ) → f (getD (sheetOf xs) i []) ≡ f (getD (sheetOf ys) i [])
-  entry-alike f e i = sym (List·getD-map f (sheetOf xs) i []) ∙ ap (λ l. getD l i (f [])) (sheets-alike f e) ∙ List·getD-map f (sheetOf ys) i []
-
-  count-alike : length (sheetOf xs) ≡ length (sheetOf ys)
-  count-alike = sym (length-map (sheetOf xs) headIn) ∙ ap length (sheets-alike headIn (same .heads)) ∙ length-map (sheetOf ys) headIn
-
   bits-alike : (i k : ℕ) → k < 32 → T (chosen k) → rowBit k (getD (sheetOf xs) i []) ≡ rowBit k (getD (sheetOf ys) i [])
   unfolding strikeIn
-  bits-alike i k h t = entry-alike (strikeIn k) (same .strikes k h t) i
+  bits-alike i k h t = entry-alike xs ys (strikeIn k) (same .strikes k h t) i
 
   -- both sheets have a record there, or neither has
   rows-alike : (i : ℕ) → RowsAlike chosen (getD (sheetOf xs) i []) (getD (sheetOf ys) i [])
@@ -80,15 +56,15 @@ module _ (chosen : ℕ → Bool) (A B : Tune) (cs ds : List Call) (xs ys : List 
       by true e =
           let h : i < length (sheetOf xs) = ltb-true _ _ e in
           let p = record-length A cs xs lA a i h in
-          let q = record-length B ds ys lB b i (omega (arith, h, count-alike)) in
+          let q = record-length B ds ys lB b i (omega (arith, h, count-alike xs ys (same .heads))) in
           record {
             size = p ∙ sym q;
-            start = start-in _ p ∙ ap (λ (l : List ℕ). take 8 (drop 8 l)) (entry-alike headIn (same .heads) i) ∙ sym (start-in _ q);
+            start = start-in _ p ∙ ap (λ (l : List ℕ). take 8 (drop 8 l)) (entry-alike xs ys headIn (same .heads) i) ∙ sym (start-in _ q);
             bits = bits-alike i;
           }
       by false e =
           let h : length (sheetOf xs) ≤ i = ltb-false _ _ e in
-          let p = List·getD-eq-default (sheetOf xs) [] h ∙ sym (List·getD-eq-default (sheetOf ys) [] {n = i} (omega (arith, h, count-alike))) in
+          let p = List·getD-eq-default (sheetOf xs) [] h ∙ sym (List·getD-eq-default (sheetOf ys) [] {n = i} (omega (arith, h, count-alike xs ys (same .heads)))) in
           record { size = ap length p; start = ap rowStart p; bits = bits-alike i }
 
   calls-alike : (drives : List Drive) → CallsAlike chosen (callsOn xs drives) (callsOn ys drives)

@@ -8,4 +8,6 @@ pub mod MadeCalls
 pub mod Theorem
 pub mod Example
 pub mod ClosedTunes
+pub mod Sheets
 pub mod Heads
+pub mod Stored

@@ -7,23 +7,20 @@ use lib.ListN.{getD}
 use Rattle.section.specs.declared.state.Opened.{Opened}
 use Rattle.section.specs.Tables.{Tune}
 use Rattle.section.specs.Open.{openRule}
-use Rattle.section.specs.Section.{Answer, joined}
+use Rattle.section.specs.Section.{Answer}
 use Rattle.section.specs.Made.{Made}
 use Rattle.punch_head.specs.Histories as head
 use Rattle.punch_head.specs.Alike.{HeadsAlike}
 use Rattle.noninterference.specs.Revoiced.{Revoiced, Lent}
-use Rattle.noninterference.specs.Calls.{Call, recordsIn, answersOf, sizesGiven}
+use Rattle.noninterference.specs.Calls.{Call, answersOf, sizesGiven}
 use Rattle.noninterference.specs.Machines.{opened}
 use Rattle.noninterference.specs.Made.{callOf, MadeOn, readBack}
+use Rattle.noninterference.specs.Sheets.{sheetOf}
 
 -- a command, and the number of the record that it comes with
 pub record Drive : Type 0 where
   pub command : ℕ
   pub at : ℕ
-
--- all records that a list of calls gave
-unfoldable pub sheetOf : List Answer → List (List ℕ)
-sheetOf xs = joined (map recordsIn xs)
 
 -- the commands with their records; where there is no such record, with no bytes
 unfoldable pub callsOn : List Answer → List Drive → List head.Call

@@ -4,4 +4,6 @@ pub mod Machines
 pub mod Kept
 pub mod Made
 pub mod ClosedTunes
+pub mod Sheets
 pub mod Heads
+pub mod Stored
