@@ -1,16 +1,16 @@
 -- What rule 16 settles, and what a call then says and leaves. Assumes nothing.
 use mathlib.Core.Path.{_≡_, refl, sym, ap, _∙_}
-use mathlib.Core.Bool.{Bool, not, _||_}
+use mathlib.Core.Bool.{Bool, true, false, not, _||_}
 use mathlib.Core.List.{List}
 use Prim.Native.Nat.{ℕ, _*_, _≤_}
 use lib.Dec.{eqb, ltb}
 use lib.ListN.{length}
 use borrow.Author.Tests.{eqb-true, ltb-false, not-false, le-ltb, eq-eqb, ne-eqb}
 use native.Mathlib.Omega.{arith}
-use Rattle.laws.specs.Refusals.{said}
+use Rattle.laws.specs.Refusals.{refuse, said}
 use Rattle.laws.proofs.Rules.{kept, not-zero}
 use Rattle.laws.proofs.Picks.{or-false, pick-equal, pick-unequal}
-use Rattle.columns.specs.Answers.{sizesRule, storedSays, columnsSay, outputBy}
+use Rattle.columns.specs.Answers.{sizesBroken, sizesRule, storedSays, columnsSay, outputBy}
 use Rattle.columns.specs.declared.rule.Stored.the-variants.{Done, Refused}
 
 -- sizes that are not refused
@@ -33,11 +33,19 @@ fit m input output e =
       taken = eqb-true output (m * 536) (not-false (eqb output (m * 536)) (c .1));
     }
 
--- and sizes that fit are not
-pub fit-taken : (m input output : ℕ) → Fit m input output → sizesRule m input output ≡ 0
+-- and sizes that fit are not; others are
+pub fit-taken : (m input output : ℕ) → Fit m input output → 0 ≡ sizesRule m input output
 unfolding sizesRule
 fit-taken m input output f =
     simp (ne-eqb m 0 (λ e. let s = f .some in absurd (omega arith)), le-ltb 65535 m (f .most), eq-eqb input (m * 536) (f .given), eq-eqb output (m * 536) (f .taken))
+
+pub unfit : (m input output : ℕ) → (Fit m input output → ⊥) → 16 ≡ sizesRule m input output
+unfolding sizesRule
+unfit m input output h = by (sizesBroken m input output) (λ e. h (fit m input output (ap (refuse 16) e)))
+  where
+    by : (b : Bool) → (b ≡ false → ⊥) → 16 ≡ refuse 16 b
+    by true g = refl
+    by false g = absurd (g refl)
 
 module _ (f : List ℕ → ℕ → List ℕ) (input : List ℕ) (m : ℕ) (output : List ℕ) where
   abbrev rule : ℕ

@@ -1,6 +1,6 @@
 -- What `store` and `restore` answer, and their output behind the call (02, 2026-07). Assumes nothing.
 use Prim.Native.Nat.{ℕ, _*_}
-use mathlib.Core.Bool.{not, _||_}
+use mathlib.Core.Bool.{Bool, not, _||_}
 use mathlib.Core.List.{List}
 use mathlib.Core.Option.{none, some}
 use lib.Dec.{eqb, ltb}
@@ -17,9 +17,11 @@ abbrev pub mostRecords : ℕ
 mostRecords = 65535
 
 -- "16, m outside its span, input not m × 536 bytes or output of another length"
+abbrev pub sizesBroken : ℕ → ℕ → ℕ → Bool
+sizesBroken m input output = eqb m 0 || (ltb mostRecords m || (not (eqb input (m * recordSize)) || not (eqb output (m * recordSize))))
+
 unfoldable pub sizesRule : ℕ → ℕ → ℕ → ℕ
-sizesRule m input output =
-    refuse 16 (eqb m 0 || (ltb mostRecords m || (not (eqb input (m * recordSize)) || not (eqb output (m * recordSize)))))
+sizesRule m input output = refuse 16 (sizesBroken m input output)
 
 -- the number in the list of refusals of each case; neither call gives a value
 abbrev pub storedSays : Stored → Said Unit

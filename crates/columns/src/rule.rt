@@ -12,8 +12,17 @@ pub enum Stored {
 pub fn sizes_rule(m: u32, input: usize, output: usize) -> u8
     ensures { λ r. ⌜ r ≡ sizesRule m input output ⌝ }
 {
+    if m == 0 {
+        return 16;
+    }
+    if 65535 < m {
+        return 16;
+    }
     let size = m as usize * 536;
-    if (m == 0) | ((65535 < m) | ((input != size) | (output != size))) {
+    if input != size {
+        return 16;
+    }
+    if output != size {
         return 16;
     }
     0
