@@ -1,5 +1,5 @@
 -- Rows of entries one behind the other: what stands at a place, and that the places are all there are. Assumes nothing.
-use mathlib.Core.Path.{_≡_, refl, sym, ap, _∙_}
+use mathlib.Core.Path.{_≡_, sym, ap, _∙_}
 use mathlib.Core.List.{List, _++_}
 use Prim.Native.Nat.{ℕ, zero, suc, _+_, _*_, _/_, _%_, _≤_, _<_}
 use native.Mathlib.Nat.{mul-comm, suc-mul, mod-lt, mod-eq-of-lt, div-eq-of-lt, add-zero, mul-add-div-right, mul-add-mod-self-right, mul-le-mul-right, div-lt-iff-lt-mul, div-add-mod}

@@ -1,13 +1,13 @@
 -- The two ways of the loops: what belongs at the place of a byte, and when the whole output is made. Assumes nothing.
-use mathlib.Core.Path.{_≡_, refl, sym, ap, subst, _∙_}
+use mathlib.Core.Path.{_≡_, refl, sym, subst, _∙_}
 use mathlib.Core.Bool.{Bool, true, false}
 use mathlib.Core.List.{List}
-use Prim.Native.Nat.{ℕ, _+_, _*_, _-_, _≤_, _<_}
+use Prim.Native.Nat.{ℕ, _+_, _*_, _-_, _<_}
 use native.Mathlib.Omega.{arith}
 use lib.Dec.{T}
-use lib.ListN.{length, getD}
-use Rattle.columns.specs.Columns.{difference, sum, gridAt, recordPlace, columnPlace, byteOf, columnOf, storedByte, restoredByte, stored, restored}
-use Rattle.columns.specs.Places.{made, madeAt, placeOf, prior, Right, Column, Rows}
+use lib.ListN.{length}
+use Rattle.columns.specs.Columns.{difference, sum, byteOf, columnOf, storedByte, restoredByte, stored, restored}
+use Rattle.columns.specs.Places.{made, madeAt, placeOf, prior, Column, Rows}
 use Rattle.columns.proofs.Differences.{differences-next, sums-next, prior-same}
 use Rattle.columns.proofs.Grids.{place-fits, grid-there, grid-whole}
 

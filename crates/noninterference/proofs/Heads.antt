@@ -2,31 +2,27 @@
 use Prim.Native.Nat.{ℕ, _≤_, _<_}
 use mathlib.Core.Path.{_≡_, refl, sym, ap, _∙_, subst}
 use mathlib.Core.Bool.{Bool, true, false}
-use mathlib.Core.List.{List, [], _∷_, _++_, map, append-assoc, map-append}
+use mathlib.Core.List.{List, [], _∷_, _++_, map, append-assoc}
 use native.Mathlib.Omega.{arith}
 use borrow.Author.Tests.{ltb-true, ltb-false}
 use lib.Dec.{T, ltb}
-use lib.ListN.{length, getD, take, drop, length-map, List·getD-eq-default, List·getD-map}
+use lib.ListN.{length, getD, take, drop, List·getD-eq-default}
 use lib.Seq.{take-add, take-at, drop-at, length-take-le}
 use Rattle.laws.proofs.Parts.{cut-length}
 use Rattle.section.specs.declared.state.Opened.{Opened}
 use Rattle.section.specs.Tables.{Tune}
-use Rattle.section.specs.Walk.{voicesOf}
-use Rattle.section.specs.Section.{Answer, joined}
+use Rattle.section.specs.Section.{Answer}
 use Rattle.section.specs.Made.{Made}
-use Rattle.section.proofs.Sizes.{each-length}
 use Rattle.punch_head.specs.Registers.{rowStart}
 use Rattle.punch_head.specs.Histories as head
 use Rattle.punch_head.specs.Alike.{rowBit, RowsAlike, CallsAlike}
 use Rattle.punch_head.proofs.Alike.{heads-alike, made-alike}
 use Rattle.noninterference.specs.Revoiced.{Lent}
-use Rattle.noninterference.specs.Calls.{Call, recordsIn}
-use Rattle.noninterference.specs.Machines.{opened, pathOf, machineRecords}
+use Rattle.noninterference.specs.Calls.{Call}
 use Rattle.noninterference.specs.Kept.{headIn, strikeIn, Same, Faithful}
 use Rattle.noninterference.specs.Made.{callOf, MadeOn, readBack}
 use Rattle.noninterference.specs.Sheets.{sheetOf}
 use Rattle.noninterference.specs.Heads.{Drive, callsOn, HeadsKept, HeadsHoweverRevoiced}
-use Rattle.noninterference.proofs.Views.{opened-channels}
 use Rattle.noninterference.proofs.Sheets.{record-length, entry-alike, count-alike}
 use Rattle.noninterference.proofs.Theorem.{channels-kept, made-kept, opened-lent}
 

@@ -17,11 +17,11 @@ use Rattle.columns.specs.Columns.{byteOf, columnOf, stored}
 use Rattle.columns.specs.Answers.{storeOutput}
 use Rattle.columns.proofs.Alike.{columns-alike}
 use Rattle.noninterference.specs.Revoiced.{Lent}
-use Rattle.noninterference.specs.Calls.{Call, recordsIn}
+use Rattle.noninterference.specs.Calls.{Call}
 use Rattle.noninterference.specs.Kept.{headIn, channelIn, Same, Faithful}
 use Rattle.noninterference.specs.Made.{callOf, MadeOn, readBack}
 use Rattle.noninterference.specs.Sheets.{sheetOf}
-use Rattle.noninterference.specs.Stored.{keptByte, sheetBytes, StoredSheet, ColumnsAlike, SheetsAlike, ColumnsKept, ColumnsHoweverRevoiced}
+use Rattle.noninterference.specs.Stored.{keptByte, sheetBytes, SheetsAlike, ColumnsKept, ColumnsHoweverRevoiced}
 use Rattle.noninterference.proofs.Sheets.{record-length, entry-alike, count-alike}
 use Rattle.noninterference.proofs.Theorem.{channels-kept, made-kept, opened-lent}
 
