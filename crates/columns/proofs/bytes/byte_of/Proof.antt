@@ -39,16 +39,6 @@ returns-2 c =
 pub byte-of-spec : {M : Type 1} → statement M
 byte-of-spec =
     tie.close
-    (tie.spec
-    (λ c. search needs)
-    (λ c. search needs)
-    (λ c. search needs)
-    (λ c κs. search needs)
-    (λ c κs. search needs)
-    returns
-    (λ c κs. search needs)
-    mul-plus
-    add-plus
-    shared-slice-read-plus
-    (λ c κs. search needs)
-    returns-2)
+    (tie.spec (λ c. search needs) (λ c. search needs) (λ c. search needs) (λ c κs. search needs)
+    (λ c κs. search needs) returns (λ c κs. search needs) mul-plus add-plus shared-slice-read-plus
+    (λ c κs. search needs) returns-2)

@@ -47,13 +47,5 @@ returns c k h r i = c .before .loop .inv .4 k (omega (arith, h, c .loop-test .le
 pub block-spec : {M : Type 1} → statement M
 block-spec =
     tie.close
-    (tie.spec
-    Inv-loop
-    μ-loop
-    loop-holds
-    strip-requires
-    (λ c. search needs)
-    (λ c. search needs)
-    loop-again
-    (λ c. search needs)
-    returns)
+    (tie.spec Inv-loop μ-loop loop-holds strip-requires (λ c. search needs) (λ c. search needs) loop-again
+    (λ c. search needs) returns)

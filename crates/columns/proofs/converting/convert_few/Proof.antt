@@ -35,13 +35,5 @@ returns c =
 pub convert-few-spec : {M : Type 1} → statement M
 convert-few-spec =
     tie.close
-    (tie.spec
-    Inv-loop
-    μ-loop
-    loop-holds
-    convert-record-requires
-    (λ c. search needs)
-    (λ c. search needs)
-    loop-again
-    (λ c. search needs)
-    returns)
+    (tie.spec Inv-loop μ-loop loop-holds convert-record-requires (λ c. search needs) (λ c. search needs) loop-again
+    (λ c. search needs) returns)

@@ -39,20 +39,7 @@ returns c =
 pub store-tile-spec : {M : Type 1} → statement M
 store-tile-spec =
     tie.close
-    (tie.spec
-    (λ c κs. search needs)
-    (λ c κs. search needs)
-    (λ c. search needs)
-    (λ c. search needs)
-    (λ c. search needs)
-    (λ c. search needs)
-    (λ c κs. search needs)
-    (λ c. search needs)
-    (λ c. search needs)
-    (λ c κs. search needs)
-    mul-copy-rows
-    add-copy-rows
-    (λ c. search needs)
-    copy-rows-requires
-    (λ c. search needs)
+    (tie.spec (λ c κs. search needs) (λ c κs. search needs) (λ c. search needs) (λ c. search needs)
+    (λ c. search needs) (λ c. search needs) (λ c κs. search needs) (λ c. search needs) (λ c. search needs)
+    (λ c κs. search needs) mul-copy-rows add-copy-rows (λ c. search needs) copy-rows-requires (λ c. search needs)
     returns)

@@ -73,17 +73,5 @@ returns c g h =
 pub copy-rows-spec : {M : Type 1} → statement M
 copy-rows-spec =
     tie.close
-    (tie.spec
-    Inv-loop
-    μ-loop
-    loop-holds
-    mul-copy-row
-    add-copy-row
-    mul-copy-row-2
-    add-copy-row-2
-    copy-row-requires
-    (λ c. search needs)
-    (λ c. search needs)
-    loop-again
-    (λ c. search needs)
-    returns)
+    (tie.spec Inv-loop μ-loop loop-holds mul-copy-row add-copy-row mul-copy-row-2 add-copy-row-2 copy-row-requires
+    (λ c. search needs) (λ c. search needs) loop-again (λ c. search needs) returns)

@@ -39,20 +39,6 @@ returns c q l = c .before .loop .inv .2 q (omega (arith, l, c .loop-test .left))
 pub interleave-spec : {M : Type 1} → statement M
 interleave-spec =
     tie.close
-    (tie.spec
-    Inv-loop
-    μ-loop
-    loop-holds
-    (λ c. search needs)
-    (λ c. search needs)
-    (λ c. search needs)
-    (λ c. search needs)
-    (λ c. search needs)
-    (λ c. search needs)
-    (λ c. search needs)
-    slice-write-u-2
-    (λ c. search needs)
-    (λ c. search needs)
-    loop-again
-    (λ c. search needs)
-    returns)
+    (tie.spec Inv-loop μ-loop loop-holds (λ c. search needs) (λ c. search needs) (λ c. search needs)
+    (λ c. search needs) (λ c. search needs) (λ c. search needs) (λ c. search needs) slice-write-u-2
+    (λ c. search needs) (λ c. search needs) loop-again (λ c. search needs) returns)
