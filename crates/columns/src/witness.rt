@@ -1,6 +1,6 @@
 // Both identities, of two calls that this makes: they can be drawn only from what `store` and `restore` promise.
 ghost use mathlib.Core.Path.{_≡_};
-ghost use Rattle.columns.specs.Answers.{storedSays};
+ghost use Rattle.columns.specs.Answers.{storedSays, storeOutput, restoreOutput};
 ghost use Rattle.columns.specs.Trips.{tripSays, tripOutput};
 use crate::restore;
 use crate::rule::Stored;
@@ -10,6 +10,7 @@ use crate::store;
 pub fn store_and_restore(records: &[u8], m: u32, columns: &mut [u8], back: &mut [u8]) -> Stored
     ensures answer { λ r. ⌜ storedSays r ≡ tripSays (now (records .entry)) m (now (columns .entry)) (now (back .entry)) ⌝ }
     ensures written { λ _. ⌜ now (back .exit) ≡ tripOutput (now (records .entry)) m (now (columns .entry)) (now (back .entry)) ⌝ }
+    ensures between { λ _. ⌜ now (columns .exit) ≡ storeOutput (now (records .entry)) m (now (columns .entry)) ⌝ }
 {
     match store(records, m, columns) {
         Stored::Done => restore(columns, m, back),
@@ -21,6 +22,7 @@ pub fn store_and_restore(records: &[u8], m: u32, columns: &mut [u8], back: &mut 
 pub fn restore_and_store(columns: &[u8], m: u32, records: &mut [u8], back: &mut [u8]) -> Stored
     ensures answer { λ r. ⌜ storedSays r ≡ tripSays (now (columns .entry)) m (now (records .entry)) (now (back .entry)) ⌝ }
     ensures written { λ _. ⌜ now (back .exit) ≡ tripOutput (now (columns .entry)) m (now (records .entry)) (now (back .entry)) ⌝ }
+    ensures between { λ _. ⌜ now (records .exit) ≡ restoreOutput (now (columns .entry)) m (now (records .entry)) ⌝ }
 {
     match restore(columns, m, records) {
         Stored::Done => store(records, m, back),
