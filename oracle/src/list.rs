@@ -9,9 +9,9 @@ pub const ROOMS: [usize; 5] = [65_536, 1_048_576, 65_536, 65_536, 131_072];
 const BYTES: usize = u32::MAX as usize;
 /// Of a piece in the list: its place, its count, and where it is copied from.
 const PIECE_BYTES: usize = 12;
-/// Runs, and the sizes of cells, records' channels, samples, channels, rows, records and patterns, and of five columns of
-/// 63, 64, 65 and 122 bytes.
-const DISTANCES: [usize; 12] = [1, 5, 16, 20, 80, 160, 536, 10_240, 315, 320, 325, 610];
+/// Runs, and the sizes of cells, records' channels, samples, channels, one row, two and four, records and patterns, and of
+/// five columns of 17, 18, 33, 34 and 122 bytes; five of 16 have the size of a channel.
+const DISTANCES: [usize; 15] = [1, 5, 16, 20, 80, 160, 320, 640, 536, 10_240, 85, 90, 165, 170, 610];
 
 /// A call with its answer.
 #[derive(Debug, PartialEq, Eq)]

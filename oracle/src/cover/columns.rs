@@ -7,20 +7,22 @@ use crate::list::Case;
 use crate::tune::RECORD_BYTES;
 
 const PREFIXES: [&str; 2] = ["store: ", "restore: "];
-/// Small ones, those about the library's blocks of 64, and the most that a room has.
-const RECORDS: [usize; 7] = [1, 2, 3, 63, 64, 65, 122];
-/// Of the last four, records about the blocks and at the ends.
-const TELLING: [(usize, &[usize]); 4] = [
-    (63, &[0, 1, 62]),
-    (64, &[0, 1, 62, 63]),
-    (65, &[0, 1, 62, 63, 64]),
-    (122, &[0, 1, 62, 63, 64, 65, 121]),
+/// Small ones, those about the library's tiles of 16 behind the first record, and the most that a room has.
+const RECORDS: [usize; 9] = [1, 2, 3, 16, 17, 18, 33, 34, 122];
+/// Of the last six, records at which tiles begin and end, and at the ends.
+const TELLING: [(usize, &[usize]); 6] = [
+    (16, &[0, 1, 15]),
+    (17, &[0, 1, 16]),
+    (18, &[0, 1, 2, 16, 17]),
+    (33, &[0, 1, 16, 17, 32]),
+    (34, &[0, 1, 16, 17, 18, 32, 33]),
+    (122, &[0, 1, 16, 17, 32, 33, 106, 113, 121]),
 ];
 /// Bytes at which differences wrap or nearly do.
 const EDGES: [u8; 8] = [0, 1, 3, 5, 127, 128, 254, 255];
 /// How far sizes are off, and of how many records.
 const OFF: [isize; 5] = [-536, -1, 0, 1, 536];
-const REFUSED: [usize; 3] = [1, 3, 64];
+const REFUSED: [usize; 3] = [1, 3, 17];
 /// None of them in the span; most have the low bits of one that is, or its product with 536 in 32 bits.
 #[rustfmt::skip]
 const OUTSIDE: [u32; 11] = [

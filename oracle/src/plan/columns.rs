@@ -1,5 +1,5 @@
 //! Stored and restored records: recorded rows, bytes at which differences wrap, numbers of records about the library's
-//! blocks of 64, each way to break rule 16, and random ones. Each chosen one that is taken is undone by the other call.
+//! tiles of 16, each way to break rule 16, and random ones. Each chosen one that is taken is undone by the other call.
 
 use crate::calls::{Call, Function};
 use crate::generate::columns::{self, EDGES};
@@ -10,12 +10,13 @@ use crate::tune::RECORD_BYTES;
 const BOTH: [Function; 2] = [Function::Store, Function::Restore];
 /// How many recorded rows are stored at once.
 const ROWS: [usize; 3] = [1, 2, 4];
-/// About the library's blocks, and the most that a room of the list has.
-const LARGE: [usize; 4] = [63, 64, 65, 122];
+/// About one tile and two behind the first record, and the most that a room of the list has.
+const LARGE: [usize; 6] = [16, 17, 18, 33, 34, 122];
 /// What columns go up by, over and over.
 const STEPS: [u8; 5] = [1, 171, 85, 255, 3];
-/// Where bytes are set among zeros, and in the last record.
-const SPARSE_RECORDS: [usize; 6] = [0, 1, 62, 63, 64, 65];
+/// Where bytes are set among zeros, and in the last record. Of 122 records the last tile begins at 106, the one before ends
+/// at 113.
+const SPARSE_RECORDS: [usize; 8] = [0, 1, 16, 17, 32, 33, 106, 113];
 const SPARSE_COLUMNS: [usize; 5] = [0, 1, 267, 534, 535];
 const RANDOM: usize = 8;
 const MOST_RANDOM: u32 = 2;
@@ -23,7 +24,7 @@ const MOST_RANDOM: u32 = 2;
 /// What lies in the input of a call that is refused.
 const FILL: u8 = 0x5A;
 /// Numbers of records whose sizes are off, and how far.
-const REFUSED: [u32; 3] = [1, 3, 64];
+const REFUSED: [u32; 3] = [1, 3, 17];
 const OFF: [isize; 5] = [-536, -1, 0, 1, 536];
 /// None of them in the span; most have the low bits of one that is, or its product with 536 in 32 bits.
 #[rustfmt::skip]
