@@ -1,16 +1,19 @@
-//! Stored and restored records: numbers of them about the library's blocks and up to the most, each call undone by the other,
-//! and every way to break rule 16.
+//! Stored and restored records: numbers of them about the library's tiles and blocks and up to the most, each call undone by
+//! the other, and every way to break rule 16.
 
 use crate::both::Both;
 use oracle::calls::{Call, Function};
 use oracle::columns::MOST_RECORDS;
-use oracle::generate::columns;
+use oracle::generate::{columns, noise};
 use oracle::random::Random;
 use oracle::tune::RECORD_BYTES;
 
 const BOTH: [Function; 2] = [Function::Store, Function::Restore];
-/// About the library's blocks of 64 records, and some thousands.
-const CHOSEN: [u32; 16] = [1, 2, 3, 62, 63, 64, 65, 66, 127, 128, 129, 191, 192, 193, 4_096, 5_003];
+/// About the library's tiles of 16 records and blocks of 768 behind the first record, and some thousands.
+#[rustfmt::skip]
+const CHOSEN: [u32; 23] = [
+    1, 2, 3, 15, 16, 17, 18, 31, 32, 33, 34, 768, 769, 770, 784, 785, 786, 1_536, 1_537, 1_538, 1_553, 4_096, 5_003,
+];
 /// The most records of a random call.
 const FEW: u32 = 300;
 /// Lengths go up to this, with m from 0 to 3.
@@ -25,7 +28,7 @@ pub fn compare(random: &mut Random, calls: u64) -> Result<String, String> {
         .chain([MOST_RECORDS])
         .flat_map(|m| BOTH.map(|function| (m, function)))
     {
-        let input = columns::bytes(random, m as usize);
+        let input = noise(random, m as usize * RECORD_BYTES);
         records += undone(both, &Call::of_columns(function, m, &input, input.len()))?;
     }
     for n in 0..calls {

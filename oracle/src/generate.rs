@@ -16,7 +16,7 @@ use crate::random::Random;
 pub use states::{odd_bytes, odd_state};
 pub use tunes::{Purpose, any_tune, tune};
 
-fn noise(random: &mut Random, count: usize) -> Vec<u8> {
+pub fn noise(random: &mut Random, count: usize) -> Vec<u8> {
     (0..count).map(|_| random.byte()).collect()
 }
 
