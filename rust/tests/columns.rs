@@ -4,6 +4,11 @@ use lomqashe::{MOST_ROWS, RECORD_BYTES, Record, Refusal, Tune, restore, store};
 
 const WORKED: &[u8] = include_bytes!("../../oracle/examples/worked.s3m");
 const MOST: usize = MOST_ROWS as usize;
+/// About the library's tiles of 16 records and blocks of 768 behind the first record.
+#[rustfmt::skip]
+const EDGES: [usize; 21] = [
+    1, 2, 3, 15, 16, 17, 18, 31, 32, 33, 34, 768, 769, 770, 784, 785, 786, 1_536, 1_537, 1_538, 1_553,
+];
 
 /// 02's columns: each byte but a column's first as its wrapping difference from the one before.
 fn columns_of(records: &[Record]) -> Vec<u8> {
@@ -80,7 +85,7 @@ fn every_two_bytes_have_their_difference() {
 
 #[test]
 fn any_bytes_go_to_and_fro() {
-    for m in [1, 2, 3, 63, 64, 65, 255, 256, 257, 1_000, MOST] {
+    for m in EDGES.into_iter().chain([MOST]) {
         let bytes = random_bytes(m * RECORD_BYTES, m as u64);
         let records = records_of(&bytes);
         let columns = store(&records).unwrap();
