@@ -2,7 +2,8 @@
 //! the other, and every way to break rule 16.
 
 use crate::both::Both;
-use oracle::calls::{Call, Function};
+use lomqashe::{Record, Refusal};
+use oracle::calls::{Answer, Call, Function};
 use oracle::columns::MOST_RECORDS;
 use oracle::generate::{columns, noise};
 use oracle::random::Random;
@@ -45,6 +46,7 @@ fn undone(both: &mut Both, call: &Call) -> Result<u64, String> {
     let m = call.number;
     let of = |why| format!("{m} records: {why}");
     let answer = both.same(call).map_err(of)?;
+    beside(call, &answer).map_err(of)?;
     if answer.refusal() > 0 {
         return Ok(0);
     }
@@ -92,8 +94,36 @@ fn outside(both: &mut Both) -> Result<(), String> {
 
 fn refused_or_not(both: &mut Both, m: u32, input: usize, output: usize) -> Result<(), String> {
     for function in BOTH {
-        both.same(&Call::of_columns(function, m, &vec![7; input], output))
+        let call = Call::of_columns(function, m, &vec![7; input], output);
+        both.same(&call)
+            .and_then(|answer| beside(&call, &answer))
             .map_err(|why| format!("m {m} with {input} and {output} bytes: {why}"))?;
     }
     Ok(())
+}
+
+/// rust/'s face is put the same input, where it takes m and the output's length from it as the call has them.
+fn beside(call: &Call, answer: &Answer) -> Result<(), String> {
+    let [input, output, ..] = &call.slots;
+    let (records, rest) = input.as_chunks();
+    let stores = call.function == Function::Store;
+    if call.number as usize != records.len() || output.len() != input.len() || stores && !rest.is_empty() {
+        return Ok(());
+    }
+    let ours = if stores {
+        let records: Vec<Record> = records.iter().map(Record::from_bytes).collect();
+        lomqashe::store(&records)
+    } else {
+        lomqashe::restore(input).map(|records| joined(&records))
+    };
+    let refusal = ours.as_ref().err().copied().map_or(0, Refusal::number);
+    if refusal != answer.refusal() {
+        return Err(format!("rust/ is refused by {refusal}"));
+    }
+    let same = ours.map_or(true, |bytes| bytes == answer.slots[1]);
+    same.then_some(()).ok_or("rust/ gives other bytes".to_string())
+}
+
+fn joined(records: &[Record]) -> Vec<u8> {
+    records.iter().flat_map(|record| *record.as_bytes()).collect()
 }
