@@ -66,7 +66,7 @@ fn tile(input: &[u8], m: usize, out: &mut [u8], c: usize, s: usize, storing: boo
 
 // Columns c to c + 7 of the records from s up to e.
 fn strip(input: &[u8], m: usize, out: &mut [u8], c: usize, s: usize, e: usize, storing: bool)
-    requires { ⌜ (m ≤ 65535) × (length (now input) ≡ m * 536) × (length (now out) ≡ m * 536) × (c + 8 ≤ 536) × (1 ≤ s) × (s + 16 ≤ e) × (e ≤ m) ⌝ }
+    requires { ⌜ (m ≤ 65535) × (length (now input) ≡ m * 536) × (length (now out) ≡ m * 536) × (c + 8 ≤ 536) × (1 ≤ s) × (s ≤ e) × (17 ≤ e) × (e ≤ m) ⌝ }
     requires { ⌜ Strip (placeOf storing m) (madeAt storing (now input) m) (now out) c s ⌝ }
     ensures { λ _. ⌜ Stays (madeAt storing (now (input .entry)) m) (now (out .entry)) (now (out .exit)) ⌝ }
     ensures { λ _. ⌜ Strip (placeOf storing m) (madeAt storing (now (input .entry)) m) (now (out .exit)) c e ⌝ }
@@ -81,7 +81,7 @@ fn strip(input: &[u8], m: usize, out: &mut [u8], c: usize, s: usize, e: usize, s
 
 // All columns of the records from s up to e.
 fn block(input: &[u8], m: usize, out: &mut [u8], s: usize, e: usize, storing: bool)
-    requires { ⌜ (m ≤ 65535) × (length (now input) ≡ m * 536) × (length (now out) ≡ m * 536) × (1 ≤ s) × (s + 16 ≤ e) × (e ≤ m) ⌝ }
+    requires { ⌜ (m ≤ 65535) × (length (now input) ≡ m * 536) × (length (now out) ≡ m * 536) × (1 ≤ s) × (s ≤ e) × (17 ≤ e) × (e ≤ m) ⌝ }
     requires { ⌜ Rows (placeOf storing m) (madeAt storing (now input) m) (now out) s ⌝ }
     ensures { λ _. ⌜ Rows (placeOf storing m) (madeAt storing (now (input .entry)) m) (now (out .exit)) e ⌝ }
 {
@@ -116,8 +116,7 @@ fn blocks(input: &[u8], m: usize, out: &mut [u8], storing: bool)
     let mut s: usize = 1;
     while s < m {
         let e = lesser(s + 768, m);
-        let at = lesser(s, m - 16);
-        block(input, m, out, at, e, storing);
+        block(input, m, out, s, e, storing);
         s = e;
     }
 }

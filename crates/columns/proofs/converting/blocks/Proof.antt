@@ -23,9 +23,7 @@ loop-holds : tie.Need-loop-holds Inv-loop μ-loop
 loop-holds c = (omega arith, search needs, search needs, c .before .before .convert-record .ensures)
 
 block-requires : tie.Need-block-requires Inv-loop μ-loop
-block-requires c κs =
-    let l = c .before .before .before .before .loop in
-    (search needs, λ k h r b. l .inv .3 k h r (omega (arith, b, c .before .lesser2 .ensures)))
+block-requires c κs = (search needs, c .before .before .before .loop .inv .3)
 
 loop-again : tie.Need-loop-again Inv-loop μ-loop
 loop-again c = (search needs, search needs, search needs, c .before .before .block .ensures)
@@ -40,5 +38,5 @@ pub blocks-spec : {M : Type 1} → statement M
 blocks-spec =
     tie.close
     (tie.spec Inv-loop μ-loop convert-record-requires loop-holds (λ c. search needs) (λ c κs. search needs)
-    (λ c. search needs) (λ c κs. search needs) block-requires (λ c. search needs) loop-again (λ c. search needs)
+    block-requires (λ c. search needs) loop-again (λ c. search needs)
     returns)
