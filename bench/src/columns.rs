@@ -15,8 +15,9 @@ pub const WAYS: usize = 3;
 pub const STORES: [Call; WAYS] = [library_store, store_by_columns, store_by_records];
 pub const RESTORES: [Call; WAYS] = [library_restore, restore_by_columns, restore_by_records];
 
-/// How many records, and in how many rounds: of the last a plain call takes a tenth of a second and more.
-const SIZES: [(usize, usize); 3] = [(100, ROUNDS), (5_000, ROUNDS), (MOST, 9)];
+/// How many records, and in how many rounds: 16 are too few for a tile of the library, and of the last a plain call takes a
+/// tenth of a second and more.
+const SIZES: [(usize, usize); 4] = [(16, ROUNDS), (100, ROUNDS), (5_000, ROUNDS), (MOST, 9)];
 const MOST: usize = 65_535;
 /// Rule 16 as the C functions answer it.
 const REFUSED: u32 = 16 << 24;
