@@ -21,6 +21,10 @@ abbrev pub placeOf : Bool → ℕ → ℕ → ℕ → ℕ
 placeOf true m c r = columnPlace m c r
 placeOf false m c r = recordPlace c r
 
+-- lent bytes of m records each
+abbrev pub Sized : ℕ → List ℕ → List ℕ → Type 0
+Sized m input out = (m ≤ 65535) × (length input ≡ m * recordSize) × (length out ≡ m * recordSize)
+
 -- the byte before that of record r in a column: 0 before the first
 unfoldable pub prior : (ℕ → ℕ) → ℕ → ℕ
 prior f zero = 0

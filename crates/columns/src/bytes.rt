@@ -3,7 +3,7 @@ ghost use mathlib.Core.Path.{_≡_};
 ghost use Prim.Native.Nat.{_*_, _≤_, _<_};
 ghost use lib.ListN.{length};
 ghost use Rattle.columns.specs.Columns.{difference, sum, byteOf};
-ghost use Rattle.columns.specs.Places.{prior, madeAt, placeOf, Column};
+ghost use Rattle.columns.specs.Places.{prior, madeAt, placeOf, Sized, Column};
 use std::num::wrapping_add_u8;
 use std::num::wrapping_sub_u8;
 
@@ -45,7 +45,7 @@ pub fn place_of(m: usize, c: usize, r: usize, storing: bool) -> usize
 
 // The byte that belongs there; of an output that has it in the records before.
 pub fn byte_of(input: &[u8], m: usize, out: &[u8], c: usize, r: usize, storing: bool) -> u8
-    requires { ⌜ (m ≤ 65535) × (length (now input) ≡ m * 536) × (length (now out) ≡ m * 536) × (c < 536) × (r < m) ⌝ }
+    requires { ⌜ Sized m (now input) (now out) × (c < 536) × (r < m) ⌝ }
     requires { ⌜ Column (placeOf storing m) (madeAt storing (now input) m) (now out) c r ⌝ }
     ensures { λ b. ⌜ b ≡ madeAt storing (now (input .entry)) m (placeOf storing m c r) ⌝ }
 {

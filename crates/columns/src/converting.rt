@@ -2,9 +2,8 @@
 // blocks. The last tile of a strip begins 16 records before its end, and writes what the one before wrote there once more.
 ghost use mathlib.Core.Path.{_≡_};
 ghost use mathlib.Core.Bool.{true, false};
-ghost use Prim.Native.Nat.{min, _+_, _*_, _≤_, _<_};
-ghost use lib.ListN.{length};
-ghost use Rattle.columns.specs.Places.{made, madeAt, placeOf, Stays, Rows, Strip, TileMade};
+ghost use Prim.Native.Nat.{min, _+_, _≤_, _<_};
+ghost use Rattle.columns.specs.Places.{made, madeAt, placeOf, Sized, Stays, Rows, Strip, TileMade};
 use crate::bytes::byte_of;
 use crate::bytes::place_of;
 use crate::tiles::add_up;
@@ -26,7 +25,7 @@ fn lesser(a: usize, b: usize) -> usize
 
 // The differences of 16 records from the ones before, then in columns.
 fn store_tile(records: &[u8], m: usize, out: &mut [u8], c: usize, s: usize)
-    requires { ⌜ (m ≤ 65535) × (length (now records) ≡ m * 536) × (length (now out) ≡ m * 536) × (c + 8 ≤ 536) × (1 ≤ s) × (s + 16 ≤ m) ⌝ }
+    requires { ⌜ Sized m (now records) (now out) × (c + 8 ≤ 536) × (1 ≤ s) × (s + 16 ≤ m) ⌝ }
     ensures { λ _. ⌜ TileMade true (now (records .entry)) m (now (out .entry)) (now (out .exit)) c s ⌝ }
 {
     let mut t = blank();
@@ -38,7 +37,7 @@ fn store_tile(records: &[u8], m: usize, out: &mut [u8], c: usize, s: usize)
 
 // The differences in 16 records, then added up from the record before.
 fn restore_tile(columns: &[u8], m: usize, out: &mut [u8], c: usize, s: usize)
-    requires { ⌜ (m ≤ 65535) × (length (now columns) ≡ m * 536) × (length (now out) ≡ m * 536) × (c + 8 ≤ 536) × (1 ≤ s) × (s + 16 ≤ m) ⌝ }
+    requires { ⌜ Sized m (now columns) (now out) × (c + 8 ≤ 536) × (1 ≤ s) × (s + 16 ≤ m) ⌝ }
     requires { ⌜ Strip (placeOf false m) (madeAt false (now columns) m) (now out) c s ⌝ }
     ensures { λ _. ⌜ TileMade false (now (columns .entry)) m (now (out .entry)) (now (out .exit)) c s ⌝ }
 {
@@ -53,7 +52,7 @@ fn restore_tile(columns: &[u8], m: usize, out: &mut [u8], c: usize, s: usize)
 
 // A tile, of an output that has these columns of the records before.
 fn tile(input: &[u8], m: usize, out: &mut [u8], c: usize, s: usize, storing: bool)
-    requires { ⌜ (m ≤ 65535) × (length (now input) ≡ m * 536) × (length (now out) ≡ m * 536) × (c + 8 ≤ 536) × (1 ≤ s) × (s + 16 ≤ m) ⌝ }
+    requires { ⌜ Sized m (now input) (now out) × (c + 8 ≤ 536) × (1 ≤ s) × (s + 16 ≤ m) ⌝ }
     requires { ⌜ Strip (placeOf storing m) (madeAt storing (now input) m) (now out) c s ⌝ }
     ensures { λ _. ⌜ TileMade storing (now (input .entry)) m (now (out .entry)) (now (out .exit)) c s ⌝ }
 {
@@ -66,7 +65,7 @@ fn tile(input: &[u8], m: usize, out: &mut [u8], c: usize, s: usize, storing: boo
 
 // Columns c to c + 7 of the records from s up to e.
 fn strip(input: &[u8], m: usize, out: &mut [u8], c: usize, s: usize, e: usize, storing: bool)
-    requires { ⌜ (m ≤ 65535) × (length (now input) ≡ m * 536) × (length (now out) ≡ m * 536) × (c + 8 ≤ 536) × (1 ≤ s) × (s ≤ e) × (17 ≤ e) × (e ≤ m) ⌝ }
+    requires { ⌜ Sized m (now input) (now out) × (c + 8 ≤ 536) × (1 ≤ s) × (s ≤ e) × (17 ≤ e) × (e ≤ m) ⌝ }
     requires { ⌜ Strip (placeOf storing m) (madeAt storing (now input) m) (now out) c s ⌝ }
     ensures { λ _. ⌜ Stays (madeAt storing (now (input .entry)) m) (now (out .entry)) (now (out .exit)) ⌝ }
     ensures { λ _. ⌜ Strip (placeOf storing m) (madeAt storing (now (input .entry)) m) (now (out .exit)) c e ⌝ }
@@ -81,7 +80,7 @@ fn strip(input: &[u8], m: usize, out: &mut [u8], c: usize, s: usize, e: usize, s
 
 // All columns of the records from s up to e.
 fn block(input: &[u8], m: usize, out: &mut [u8], s: usize, e: usize, storing: bool)
-    requires { ⌜ (m ≤ 65535) × (length (now input) ≡ m * 536) × (length (now out) ≡ m * 536) × (1 ≤ s) × (s ≤ e) × (17 ≤ e) × (e ≤ m) ⌝ }
+    requires { ⌜ Sized m (now input) (now out) × (1 ≤ s) × (s ≤ e) × (17 ≤ e) × (e ≤ m) ⌝ }
     requires { ⌜ Rows (placeOf storing m) (madeAt storing (now input) m) (now out) s ⌝ }
     ensures { λ _. ⌜ Rows (placeOf storing m) (madeAt storing (now (input .entry)) m) (now (out .exit)) e ⌝ }
 {
@@ -94,7 +93,7 @@ fn block(input: &[u8], m: usize, out: &mut [u8], s: usize, e: usize, storing: bo
 
 // All columns of record r, byte by byte.
 fn convert_record(input: &[u8], m: usize, out: &mut [u8], r: usize, storing: bool)
-    requires { ⌜ (m ≤ 65535) × (length (now input) ≡ m * 536) × (length (now out) ≡ m * 536) × (r < m) ⌝ }
+    requires { ⌜ Sized m (now input) (now out) × (r < m) ⌝ }
     requires { ⌜ Rows (placeOf storing m) (madeAt storing (now input) m) (now out) r ⌝ }
     ensures { λ _. ⌜ Rows (placeOf storing m) (madeAt storing (now (input .entry)) m) (now (out .exit)) (r + 1) ⌝ }
 {
@@ -109,7 +108,7 @@ fn convert_record(input: &[u8], m: usize, out: &mut [u8], r: usize, storing: boo
 // All records: the first one byte by byte, for it has none before it, then 768 at a time, which stay in the second cache while
 // all their columns are made.
 fn blocks(input: &[u8], m: usize, out: &mut [u8], storing: bool)
-    requires { ⌜ (17 ≤ m) × (m ≤ 65535) × (length (now input) ≡ m * 536) × (length (now out) ≡ m * 536) ⌝ }
+    requires { ⌜ Sized m (now input) (now out) × (17 ≤ m) ⌝ }
     ensures { λ _. ⌜ now (out .exit) ≡ made storing (now (input .entry)) m ⌝ }
 {
     convert_record(input, m, out, 0, storing);
@@ -123,7 +122,7 @@ fn blocks(input: &[u8], m: usize, out: &mut [u8], storing: bool)
 
 // Too few records for a tile and the record before it.
 fn convert_few(input: &[u8], m: usize, out: &mut [u8], storing: bool)
-    requires { ⌜ (m ≤ 65535) × (length (now input) ≡ m * 536) × (length (now out) ≡ m * 536) ⌝ }
+    requires { ⌜ Sized m (now input) (now out) ⌝ }
     ensures { λ _. ⌜ now (out .exit) ≡ made storing (now (input .entry)) m ⌝ }
 {
     let mut r: usize = 0;
@@ -133,8 +132,9 @@ fn convert_few(input: &[u8], m: usize, out: &mut [u8], storing: bool)
     }
 }
 
+// What storing or restoring makes of the input, over the whole output.
 pub fn convert(input: &[u8], m: usize, out: &mut [u8], storing: bool)
-    requires { ⌜ (m ≤ 65535) × (length (now input) ≡ m * 536) × (length (now out) ≡ m * 536) ⌝ }
+    requires { ⌜ Sized m (now input) (now out) ⌝ }
     ensures { λ _. ⌜ now (out .exit) ≡ made storing (now (input .entry)) m ⌝ }
 {
     if m < 17 {

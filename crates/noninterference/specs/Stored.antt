@@ -36,11 +36,12 @@ pub record StoredSheet (xs : List Answer) (after : List ℕ) : Type 0 where
 abbrev pub ColumnsAlike : (ℕ → Bool) → ℕ → List ℕ → List ℕ → Type 0
 ColumnsAlike chosen m a b = (c : ℕ) → c < recordSize → T (keptByte chosen c) → (r : ℕ) → r < m → columnOf a m c r ≡ columnOf b m c r
 
--- demand 3's premises; both sheets have as many records, and are stored
+-- two sheets have as many records, and stored they are so alike
 pub record SheetsAlike (chosen : ℕ → Bool) (xs ys : List Answer) : Type 0 where
   pub count : length (sheetOf xs) ≡ length (sheetOf ys)
   pub columns : (a b : List ℕ) → StoredSheet xs a → StoredSheet ys b → ColumnsAlike chosen (length (sheetOf xs)) a b
 
+-- with demand 3's premises, for a set of channels
 abbrev pub ColumnsKept : (ℕ → Bool) → Type 0
 ColumnsKept chosen =
     (A B : Tune) (calls : List Call) → Lent A → Lent B → openRule (A .tables) (A .opening) ≡ 0 → openRule (B .tables) (B .opening) ≡ 0

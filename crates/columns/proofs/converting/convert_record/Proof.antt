@@ -37,7 +37,7 @@ loop-again c =
     let a = b .args in
     let l = c .before .before .before .before .loop in
     let q = c .place-of in
-    let h : q .result < length (l .out) = omega (arith, q .ensures .1, l .inv .1, b .pre .0 .2) in
+    let h : q .result < length (l .out) = omega (arith, q .ensures .1, l .inv .1, b .pre .0 .0 .2) in
     let n = record-next (placeOf (a .storing) (a .m)) (madeAt (a .storing) (now (a .input)) (a .m)) (l .out) (l .c) (a .r) _ _ (q .ensures .0) h (c .before .byte-of .ensures) (l .inv .2) (l .inv .3) in
     (search needs, search needs, n .0, n .1)
 

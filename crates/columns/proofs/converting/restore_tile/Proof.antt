@@ -10,26 +10,26 @@ use Rattle.columns.proofs.converting.restore_tile.Tie as tie
 mul-copy-rows : tie.Need-mul-copy-rows
 mul-copy-rows c =
     let b = c .before .before .before .before .before in
-    let k = stored-fits (b .args .m) (b .args .c) (b .args .s) (omega (arith, b .pre .0 .3)) (omega (arith, b .pre .0 .5)) in
+    let k = stored-fits (b .args .m) (b .args .c) (b .args .s) (omega (arith, b .pre .0 .1)) (omega (arith, b .pre .0 .3)) in
     search needs
 
 add-copy-rows : tie.Need-add-copy-rows
 add-copy-rows c =
     let b = c .before .before .before .before .before in
-    let k = stored-fits (b .args .m) (b .args .c) (b .args .s) (omega (arith, b .pre .0 .3)) (omega (arith, b .pre .0 .5)) in
+    let k = stored-fits (b .args .m) (b .args .c) (b .args .s) (omega (arith, b .pre .0 .1)) (omega (arith, b .pre .0 .3)) in
     search needs
 
 copy-rows-requires : tie.Need-copy-rows-requires
 copy-rows-requires c κs =
     let b = c .before .before .before .before .before in
     let a = b .args in
-    (λ k l. search needs, columns-fit (a .m) (a .c) (a .s) (now (a .columns)) (b .pre .0 .1) (b .pre .0 .3) (b .pre .0 .5))
+    (λ k l. search needs, columns-fit (a .m) (a .c) (a .s) (now (a .columns)) (b .pre .0 .0 .1) (b .pre .0 .1) (b .pre .0 .3))
 
 copy-rows-requires-2 : tie.Need-copy-rows-requires-2
 copy-rows-requires-2 c κs =
     let b = c .before .before .before .before .before .before .before .before .before .before .before .before .before .before .before .before .before .before .before .before .before .before in
     let a = b .args in
-    (records-fit (a .m) (a .c) (a .s) (now (a .out)) (b .pre .0 .2) (b .pre .0 .3) (b .pre .0 .5), λ k l. search needs)
+    (records-fit (a .m) (a .c) (a .s) (now (a .out)) (b .pre .0 .0 .2) (b .pre .0 .1) (b .pre .0 .3), λ k l. search needs)
 
 returns : tie.Need-returns
 returns c =
@@ -45,7 +45,7 @@ returns c =
     let h = g .before .before .before in
     let b = h .before .before .before in
     let a = b .args in
-    tile-restored (a .m) (a .c) (a .s) (b .pre .0 .4) (b .pre .0 .3) (b .pre .0 .5) (now (a .columns)) (now (a .out)) (h .blank .result) (taken .last .0) (turned .last .1 .0) (turned .last .0) (above .last .0) (summed .last .0) (put .last .0)
+    tile-restored (a .m) (a .c) (a .s) (b .pre .0 .2) (b .pre .0 .1) (b .pre .0 .3) (now (a .columns)) (now (a .out)) (h .blank .result) (taken .last .0) (turned .last .1 .0) (turned .last .0) (above .last .0) (summed .last .0) (put .last .0)
     (taken .ensures) (turned .ensures) (b .pre .1) (above .ensures) (summed .ensures) (put .ensures)
 
 pub restore-tile-spec : {M : Type 1} → statement M

@@ -10,20 +10,20 @@ use Rattle.columns.proofs.converting.store_tile.Tie as tie
 mul-copy-rows : tie.Need-mul-copy-rows
 mul-copy-rows c =
     let b = c .before .before .before .before .before .before .before .before .before .before .before .before .before in
-    let k = stored-fits (b .args .m) (b .args .c) (b .args .s) (omega (arith, b .pre .3)) (omega (arith, b .pre .5)) in
+    let k = stored-fits (b .args .m) (b .args .c) (b .args .s) (omega (arith, b .pre .1)) (omega (arith, b .pre .3)) in
     search needs
 
 add-copy-rows : tie.Need-add-copy-rows
 add-copy-rows c =
     let b = c .before .before .before .before .before .before .before .before .before .before .before .before .before in
-    let k = stored-fits (b .args .m) (b .args .c) (b .args .s) (omega (arith, b .pre .3)) (omega (arith, b .pre .5)) in
+    let k = stored-fits (b .args .m) (b .args .c) (b .args .s) (omega (arith, b .pre .1)) (omega (arith, b .pre .3)) in
     search needs
 
 copy-rows-requires : tie.Need-copy-rows-requires
 copy-rows-requires c κs =
     let b = c .before .before .before .before .before .before .before .before .before .before .before .before .before .before in
     let a = b .args in
-    (columns-fit (a .m) (a .c) (a .s) (now (a .out)) (b .pre .2) (b .pre .3) (b .pre .5), λ k l. search needs)
+    (columns-fit (a .m) (a .c) (a .s) (now (a .out)) (b .pre .0 .2) (b .pre .1) (b .pre .3), λ k l. search needs)
 
 returns : tie.Need-returns
 returns c =
@@ -34,7 +34,7 @@ returns c =
     let differed = e .differ-rows in
     let b = e .before .before .before .before .before .before in
     let a = b .args in
-    tile-stored (a .m) (a .c) (a .s) (b .pre .4) (b .pre .3) (b .pre .5) (now (a .records)) (differed .last .0) (turned .last .0) (now (a .out)) (put .last .0) (differed .ensures) (turned .ensures) (put .ensures)
+    tile-stored (a .m) (a .c) (a .s) (b .pre .2) (b .pre .1) (b .pre .3) (now (a .records)) (differed .last .0) (turned .last .0) (now (a .out)) (put .last .0) (differed .ensures) (turned .ensures) (put .ensures)
 
 pub store-tile-spec : {M : Type 1} → statement M
 store-tile-spec =
