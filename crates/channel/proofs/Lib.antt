@@ -6,6 +6,8 @@ pub mod Held
 pub mod Armed
 pub mod Delivered
 pub mod Each
+pub mod Steps
 pub mod Numbered
+pub mod Levelled
 pub mod Resting
 pub mod Visits

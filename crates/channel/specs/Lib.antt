@@ -9,3 +9,4 @@ pub mod Row
 pub mod Channels
 pub mod Rest
 pub mod Numbers
+pub mod LevelLimits

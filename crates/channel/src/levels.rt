@@ -1,6 +1,7 @@
 // Volumes and pans.
 ghost use mathlib.Core.Path.{_≡_};
 ghost use Rattle.laws.specs.Choice.{pick};
+ghost use Rattle.channel.specs.LevelLimits.{volumeLimit};
 ghost use Rattle.channel.specs.Levels.{peak, loadPeak, raised, lowered, fastSlid, volumeSlid, stereoPan, setPan};
 
 pub fn choose(test: bool, a: u8, b: u8) -> u8
@@ -15,11 +16,18 @@ pub fn clamp_pcm_volume(v: u16) -> u8
     if v < 63 { v as u8 } else { 63 }
 }
 
+// The most that a channel's volume can be.
+pub fn volume_limit(adlib: bool) -> u8
+    ensures { λ r. ⌜ r ≡ volumeLimit adlib ⌝ }
+{
+    choose(adlib, 64, 63)
+}
+
 // The volume that an instrument loads.
 pub fn load_peak(adlib: bool, v: u8) -> u8
     ensures { λ r. ⌜ r ≡ loadPeak adlib v ⌝ }
 {
-    let most = choose(adlib, 64, 63);
+    let most = volume_limit(adlib);
     if v < most { v } else { most }
 }
 
