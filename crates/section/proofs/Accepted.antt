@@ -1,6 +1,6 @@
--- Rule 11 refuses no state that Section gives within 2^32 rows of Open. Assumes nothing.
+-- Rules 11 and 17 refuse no state that Section gives within 2^32 rows of Open. Assumes nothing.
 use Prim.Native.Nat.{ℕ, zero, suc, _+_, _*_, _^_, _≤_, _<_}
-use mathlib.Core.Path.{_≡_, refl, ap, _∙_, subst}
+use mathlib.Core.Path.{_≡_, refl, ap, _∙_, subst, subst⁻¹}
 use mathlib.Core.Bool.{Bool, true, false, not, _||_}
 use mathlib.Core.List.{List, [], _∷_, map}
 use native.Mathlib.Omega.{arith}
@@ -30,17 +30,19 @@ use Rattle.row_path.specs.First.{firstPath}
 use Rattle.channel.specs.declared.channels.Rowed.{Rowed}
 use Rattle.channel.specs.declared.state.Channel.{Channel}
 use Rattle.channel.specs.declared.state.Switches.{Switches}
+use Rattle.channel.specs.LevelLimits.{Levels, levelAbove}
 use Rattle.channel.specs.Numbers.{Numbers}
 use Rattle.channel.specs.Row.{channelEntered}
 use Rattle.channel.proofs.Armed.{entered-fixed, opened-fixed}
 use Rattle.channel.proofs.Each.{Each, RowKeeps, each-entered}
+use Rattle.channel.proofs.Levelled.{above-none, opened-levels, entered-levels}
 use Rattle.channel.proofs.Numbered.{opened-numbers, entered-numbers}
 use Rattle.section.specs.declared.state.State.{State}
 use Rattle.section.specs.Tables.{Tables, tablesRule}
 use Rattle.section.specs.Open.{freshState, openRule, openOf}
 use Rattle.section.specs.Machines.{Voices, rowPlayed, voicesAfter, voicesBehind}
 use Rattle.section.specs.Walk.{voicesOf, stateWith, Walked, walk}
-use Rattle.section.specs.Section.{pathBroken, channelBroken, stateRule}
+use Rattle.section.specs.Section.{pathBroken, channelBroken, stateRule, levelsRule}
 use Rattle.section.proofs.Ready.{whole-numbers}
 use Rattle.section.proofs.Walks.{machines, walk-machines}
 
@@ -85,13 +87,19 @@ row-whole c l sInfo samples w g h =
     whole (channelEntered c l sInfo samples w g .channel) (entered-numbers c l sInfo samples w g (whole-numbers c h))
     (ap (λ (f : Fixed). beyond24 (f .transposition)) (entered-fixed c l sInfo samples w g) ∙ transposition-kept c h)
 
-each-whole : (d : Channel) (i : ℕ) (cs : List Channel) → Each Whole d cs → every (λ i c. not (channelBroken c)) i cs ≡ true
-each-whole d i [] h = refl
-each-whole d i (c ∷ cs) h = rw (h 0 (omega arith)) (each-whole d (suc i) cs (λ k b. h (suc k) (omega arith)))
+-- a test that no channel fails
+each-passes : (fails : Channel → Bool) (d : Channel) (i : ℕ) (cs : List Channel) → Each (λ c. fails c ≡ false) d cs → every (λ i c. not (fails c)) i cs ≡ true
+each-passes fails d i [] h = refl
+each-passes fails d i (c ∷ cs) h = rw (h 0 (omega arith)) (each-passes fails d (suc i) cs (λ k b. h (suc k) (omega arith)))
+
+-- levels within their limits keep rule 17
+pub levels-rule-kept : (d : Channel) (s : State) → Each Levels d (s .channels) → levelsRule s ≡ 0
+unfolding levelsRule
+levels-rule-kept d s h = rw (each-passes levelAbove d 0 (s .channels) (λ k b. above-none (getD (s .channels) k d) (h k b)))
 
 -- what a row's start keeps of a channel, the channel machine keeps
 module _ (P : Channel → Type 0) (kept : RowKeeps P) (t : Tables) (w : Switches) (d : Channel) where
-  played-each : (e : Entered) (v : Voices) → Each P d (v .channels) → Each P d (voicesAfter t w e v .channels)
+  pub played-each : (e : Entered) (v : Voices) → Each P d (v .channels) → Each P d (voicesAfter t w e v .channels)
   unfolding voicesAfter rowPlayed rowVisited rowEntered
   played-each e v h =
       choice (λ (r : Rowed). Each P d (r .channels)) (e .path .hold .held) (λ _. h)
@@ -102,6 +110,13 @@ module _ (P : Channel → Type 0) (kept : RowKeeps P) (t : Tables) (w : Switches
   voices-each [] v h = h
   voices-each (e ∷ es) v h = voices-each es (voicesAfter t w e v) (played-each e v h)
 
+-- and so does Section's loop
+pub walk-each : (P : Channel → Type 0) → RowKeeps P → (t : Tables) (n : ℕ) (s : State) (d : Channel) → Each P d (s .channels) → Each P d (walk t n s .state .channels)
+unfolding machines stateWith
+walk-each P kept t n s d h =
+    subst⁻¹ (λ (w : Walked). Each P d (w .state .channels)) (walk-machines t n s)
+    (voices-each P kept t (s .switches) d (pathWalk (t .orders) (t .cells) n (s .path) .rows) (voicesOf s) h)
+
 -- what each opening value gives, each opened channel has
 pub each-opened :
     (P : Channel → Type 0) (d : Channel) (e : ChannelOpening) (os : List ChannelOpening) → ((k : ℕ) → k < length os → P (openedChannel (getD os k e))) → Each P d (map openedChannel os)
@@ -111,6 +126,11 @@ each-opened P d e (o ∷ os) h (suc k) b = each-opened P d e os (λ j l. h (suc 
 
 opened-whole : (o : ChannelOpening) → beyond24 (o .fixed .transposition) ≡ false → Whole (openedChannel o)
 opened-whole o i = whole (openedChannel o) (opened-numbers o) (ap (λ (f : Fixed). beyond24 (f .transposition)) (opened-fixed o) ∙ i)
+
+-- Open's channels are within their limits
+pub fresh-levels : (o : Opening) → rule10 o ≡ 0 → (d : Channel) → Each Levels d (freshState o .channels)
+unfolding freshState
+fresh-levels o e d = each-opened Levels d blankChannel (o .channels) (λ k b. opened-levels _ (in-range o e .pan-most k blankChannel b))
 
 -- opening values that rule 10 accepts make a sound path
 pub first-sound : (o : Opening) → rule10 o ≡ 0 → o .speed ≤ 255 → Sound (firstPath (o .speed) (o .tempo) (o .rate))
@@ -131,9 +151,9 @@ unfolding stateRule
 kept-rule s p c = rw (p, c)
 
 -- within 2^32 rows of Open, rule 11 accepts the state
-pub own-accepted : (t : Tables) (o : Opening) (n : ℕ) → tablesRule t ≡ 0 → rule10 o ≡ 0 → Bytes (t .cells) → o .speed ≤ 255 → n ≤ 2 ^ 32 → stateRule (walk t n (freshState o) .state) ≡ 0
+own-state : (t : Tables) (o : Opening) (n : ℕ) → tablesRule t ≡ 0 → rule10 o ≡ 0 → Bytes (t .cells) → o .speed ≤ 255 → n ≤ 2 ^ 32 → stateRule (walk t n (freshState o) .state) ≡ 0
 unfolding machines stateWith freshState
-own-accepted t o n e f b l h =
+own-state t o n e f b l h =
     let short = sized (t .orders) (t .cells) (t .samples) e .orders-most in
     let first = first-sound o f l in
     let from = walk-start (t .orders) (t .cells) short b n (firstPath (o .speed) (o .tempo) (o .rate)) first in
@@ -144,8 +164,15 @@ own-accepted t o n e f b l h =
     ∙ kept-rule _
     (path-kept (w .path) (walk-sound (t .orders) (t .cells) short b n (firstPath (o .speed) (o .tempo) (o .rate)) first)
     (near (w .path .clock .start) n h (subst (λ (m : ℕ). w .path .clock .start ≤ m + n * 1992188) (first-start o) from)))
-    (each-whole d 0 (voicesBehind t (freshState o .switches) (w .rows) (voicesOf (freshState o)) .channels)
+    (each-passes channelBroken d 0 (voicesBehind t (freshState o .switches) (w .rows) (voicesOf (freshState o)) .channels)
     (voices-each Whole row-whole t (freshState o .switches) d (w .rows) (voicesOf (freshState o)) opened))
+
+-- and so does rule 17, in which the number of rows has no part
+pub own-accepted : (t : Tables) (o : Opening) (n : ℕ) → tablesRule t ≡ 0 → rule10 o ≡ 0 → Bytes (t .cells) → o .speed ≤ 255 → n ≤ 2 ^ 32
+    → (stateRule (walk t n (freshState o) .state) ≡ 0) × (levelsRule (walk t n (freshState o) .state) ≡ 0)
+own-accepted t o n e f b l h =
+    let d = openedChannel blankChannel in
+    (own-state t o n e f b l h, levels-rule-kept d _ (walk-each Levels entered-levels t n (freshState o) d (fresh-levels o f d)))
 
 -- Open accepts with 0 and the fresh state
 pub open-accepted : (t : Tables) (o : Opening) → openRule t o ≡ 0 → openOf t o ≡ record { refusal = 0; state = freshState o }

@@ -17,22 +17,26 @@ use Rattle.tune.specs.Sizes.{patternCount}
 use Rattle.tune.proofs.Sized.{sized}
 use Rattle.row_path.specs.Sound.{Sound, Bounded}
 use Rattle.row_path.specs.declared.machine.Path.{Path}
+use Rattle.channel.specs.LevelLimits.{Levels, levelAbove}
 use Rattle.channel.specs.Numbers.{Numbers}
 use Rattle.channel.specs.declared.state.Channel.{Channel}
+use Rattle.channel.proofs.Each.{Each}
+use Rattle.channel.proofs.Levelled.{none-above}
 use Rattle.channel.proofs.Numbered.{Numbered}
 use Rattle.section.specs.declared.state.State.{State}
 use Rattle.section.specs.Tables.{Tables, tablesRule}
 use Rattle.section.specs.Records.{recordSize}
 use Rattle.section.specs.Typed.{Shaped}
-use Rattle.section.specs.Section.{pathBroken, channelBroken, stateRule, roomRule, sectionRule}
+use Rattle.section.specs.Section.{pathBroken, channelBroken, stateRule, levelsRule, roomRule, sectionRule}
 
--- tables of rule 9's sizes, a path and channels of rule 11, and room for n records
+-- tables of rule 9's sizes, a path and channels of rule 11, levels of rule 17, and room for n records
 pub record Ready (t : Tables) (s : State) (n room : ℕ) : Type 0 where
   pub orders : length (t .orders) ≤ 255
   pub cells : length (t .cells) ≡ patternCount (t .cells) * 10240
   pub path : Bounded (s .path)
   pub start : s .path .clock .start ≤ 2 ^ 62
   pub numbers : (d : Channel) → Numbered d (s .channels)
+  pub levels : (d : Channel) → Each Levels d (s .channels)
   pub rows : n ≤ 65535
   pub fits : 536 * n ≤ room
 
@@ -93,19 +97,27 @@ rule-sound s e shaped =
       remainder = q .0 .remainder;
     }
 
+-- a state that rule 17 accepts has its levels within their limits
+pub rule-levels : (s : State) → levelsRule s ≡ 0 → (d : Channel) → Each Levels d (s .channels)
+unfolding levelsRule
+rule-levels s e d k h =
+    let kept-all = not-false (every (λ i c. not (levelAbove c)) 0 (s .channels)) (kept 16 _ e) in
+    none-above (getD (s .channels) k d) (not-true (levelAbove (getD (s .channels) k d)) (at (λ i c. not (levelAbove c)) (s .channels) d kept-all k h))
+
 room-parts : (n room : ℕ) → roomRule n room ≡ 0 → (n ≤ 65535) × (536 * n ≤ room)
 unfolding roomRule
 room-parts n room e =
     let b = or-false (ltb 65535 n) (ltb room (recordSize * n)) (kept 11 _ e) in
     (ltb-false 65535 n (b .0), ltb-false room (recordSize * n) (b .1))
 
--- each of its three rules is kept
-pub rules-kept : (t : Tables) (s : State) (n room : ℕ) → sectionRule t s n room ≡ 0 → (tablesRule t ≡ 0) × (stateRule s ≡ 0) × (roomRule n room ≡ 0)
+-- each of its four rules is kept
+pub rules-kept : (t : Tables) (s : State) (n room : ℕ) → sectionRule t s n room ≡ 0 → (tablesRule t ≡ 0) × (stateRule s ≡ 0) × (levelsRule s ≡ 0) × (roomRule n room ≡ 0)
 unfolding sectionRule
 rules-kept t s n room e =
     let a = sound (tablesRule t) _ e in
-    let b = sound (stateRule s) (roomRule n room) (a .1) in
-    (a .0, b .0, b .1)
+    let b = sound (stateRule s) _ (a .1) in
+    let c = sound (levelsRule s) (roomRule n room) (b .1) in
+    (a .0, b .0, c .0, c .1)
 
 -- its channels are none that rule 11 refuses
 pub whole-channels : (t : Tables) (s : State) (n room : ℕ) → sectionRule t s n room ≡ 0 → every (λ i c. not (channelBroken c)) 0 (s .channels) ≡ true
@@ -117,13 +129,14 @@ ready t s n room e =
     let z = sized (t .orders) (t .cells) (t .samples) (a .0) in
     let p = state-parts s (a .1) in
     let q = path-parts (s .path) (p .0) in
-    let r = room-parts n room (a .2) in
+    let r = room-parts n room (a .3) in
     record {
       orders = z .orders-most;
       cells = z .patterns-whole;
       path = q .0;
       start = q .1;
       numbers = channels-whole (s .channels) (p .1);
+      levels = rule-levels s (a .2);
       rows = r .0;
       fits = r .1;
     }

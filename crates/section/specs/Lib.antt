@@ -6,4 +6,5 @@ pub mod Machines
 pub mod Walk
 pub mod Section
 pub mod Made
+pub mod Levelled
 pub mod Ordinary

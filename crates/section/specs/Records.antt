@@ -34,6 +34,13 @@ strikesAt = 16
 abbrev pub lengthAt : ℕ
 lengthAt = 20
 
+-- where the volume and the pan stand in a channel
+abbrev pub volumeAt : ℕ
+volumeAt = 9
+
+abbrev pub panAt : ℕ
+panAt = 10
+
 -- order, pattern, row, held, speed, tempo, global volume, 0; 64-bit start; 32-bit strike mask; 32-bit length
 unfoldable pub rowHead : Entered → ℕ → ℕ → List ℕ
 rowHead e globalVolume strikes =

@@ -1,4 +1,4 @@
--- Section (01, 'Section' and rules 9, 11 and 12). Assumes nothing.
+-- Section (01, 'Section' and rules 9, 11 and 12; 02, rule 17). Assumes nothing.
 use Prim.Native.Nat.{ℕ, zero, suc, _*_, _^_}
 use mathlib.Core.Bool.{Bool, false, _||_, not}
 use mathlib.Core.List.{List, [], _∷_, _++_}
@@ -10,6 +10,7 @@ use Rattle.laws.specs.Refusals.{refuse, orElse}
 use Rattle.tune.specs.Transposition.{beyond24}
 use Rattle.tune.specs.Opening.{rateBroken}
 use Rattle.row_path.specs.declared.machine.Path.{Path}
+use Rattle.channel.specs.LevelLimits.{levelAbove}
 use Rattle.channel.specs.declared.state.Channel.{Channel}
 use Rattle.section.specs.declared.state.State.{State}
 use Rattle.section.specs.declared.state.Sectioned.{Sectioned}
@@ -31,13 +32,17 @@ channelBroken c = isNan (c .frequency) || isNan (c .«target_frequency») || bey
 unfoldable pub stateRule : State → ℕ
 stateRule s = refuse 11 (pathBroken (s .path) || not (every (λ i c. not (channelBroken c)) 0 (s .channels)))
 
+-- a channel volume above 63, or 64 on an AdLib channel, or a pan above 15 (02, 2026-08)
+unfoldable pub levelsRule : State → ℕ
+levelsRule s = refuse 17 (not (every (λ i c. not (levelAbove c)) 0 (s .channels)))
+
 -- n is above 65,535 or the output shorter than 536 × n
 unfoldable pub roomRule : ℕ → ℕ → ℕ
 roomRule n room = refuse 12 (ltb 65535 n || ltb room (recordSize * n))
 
--- rules 9, 11 and 12, the first of them that is broken
+-- rules 9, 11, 17 and 12, the first of them that is broken: 17 stands directly after 11
 unfoldable pub sectionRule : Tables → State → ℕ → ℕ → ℕ
-sectionRule t s n room = orElse (tablesRule t) (orElse (stateRule s) (roomRule n room))
+sectionRule t s n room = orElse (tablesRule t) (orElse (stateRule s) (orElse (levelsRule s) (roomRule n room)))
 
 -- refused with a rule's number and the state that it got; or the records, whether the tune has ended, and the state
 pub data Answer : Type 0 where

@@ -1,10 +1,13 @@
-// Rules 9, 11 and 12.
+// Rules 9, 11, 17 and 12.
 ghost use mathlib.Core.Path.{_≡_};
 ghost use mathlib.Core.Bool.{not};
+ghost use Rattle.laws.specs.Choice.{pick};
 ghost use Rattle.laws.specs.Entries.{every};
+ghost use Rattle.channel.specs.LevelLimits.{levelAbove};
 ghost use Rattle.section.specs.Tables.{lent};
-ghost use Rattle.section.specs.Section.{pathBroken, channelBroken, stateRule, roomRule, sectionRule};
+ghost use Rattle.section.specs.Section.{pathBroken, channelBroken, stateRule, levelsRule, roomRule, sectionRule};
 use crate::state::State;
+use channel::levels::volume_limit;
 use channel::state::Channel;
 use row_path::machine::Path;
 use tune::opening::rate_broken;
@@ -34,13 +37,30 @@ fn channel_broken(c: Channel) -> bool
         | is_beyond_24(fixed.transposition)
 }
 
-fn channels_kept(channels: [Channel; 32]) -> bool
-    ensures { λ r. ⌜ r ≡ every (λ i c. not (channelBroken c)) 0 channels ⌝ }
+fn level_above(c: Channel) -> bool
+    ensures { λ r. ⌜ r ≡ levelAbove c ⌝ }
+{
+    let fixed = c.fixed;
+    (volume_limit(fixed.adlib) < c.volume) | (15 < c.pan)
+}
+
+// Whether a channel's levels break rule 17, or else whether the channel breaks rule 11.
+fn channel_refused(c: Channel, levels: bool) -> bool
+    ensures { λ r. ⌜ r ≡ pick levels (levelAbove c) (channelBroken c) ⌝ }
+{
+    if levels {
+        return level_above(c);
+    }
+    channel_broken(c)
+}
+
+fn channels_kept(channels: [Channel; 32], levels: bool) -> bool
+    ensures { λ r. ⌜ r ≡ every (λ i c. not (pick levels (levelAbove c) (channelBroken c))) 0 channels ⌝ }
 {
     let mut i: usize = 0;
     while i < 32 {
         let c = channels[i];
-        if channel_broken(c) {
+        if channel_refused(c, levels) {
             return false;
         }
         i += 1;
@@ -54,7 +74,15 @@ fn state_rule(s: State) -> u8
 {
     let path = s.path;
     let channels = s.channels;
-    refusal(11, path_broken(path) | !channels_kept(channels))
+    refusal(11, path_broken(path) | !channels_kept(channels, false))
+}
+
+// 17 where a channel's level cannot be real, else 0.
+fn levels_rule(s: State) -> u8
+    ensures { λ r. ⌜ r ≡ levelsRule s ⌝ }
+{
+    let channels = s.channels;
+    refusal(17, !channels_kept(channels, true))
 }
 
 // 12 where n is too large or the output too short, else 0.
@@ -64,7 +92,7 @@ fn room_rule(n: u32, room: usize) -> u8
     refusal(12, (65535 < n) | (room < 536 * (n as usize)))
 }
 
-// The first of rules 9, 11 and 12 that is broken, else 0.
+// The first of rules 9, 11, 17 and 12 that is broken, else 0.
 pub fn section_rule(
     orders: &[u8],
     cells: &[u8],
@@ -77,6 +105,7 @@ pub fn section_rule(
 {
     let sizes = sizes_rule(orders, cells, samples);
     let state = state_rule(s);
+    let levels = levels_rule(s);
     let rows = room_rule(n, room);
-    first_of(sizes, first_of(state, rows))
+    first_of(sizes, first_of(state, first_of(levels, rows)))
 }
