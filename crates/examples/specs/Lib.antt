@@ -5,3 +5,4 @@ pub mod Closed
 pub mod Head
 pub mod Transposed
 pub mod Columns
+pub mod Levels

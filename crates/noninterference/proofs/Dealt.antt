@@ -19,7 +19,7 @@ use Rattle.section.specs.Tables.{Tables, Tune, tablesRule}
 use Rattle.section.specs.Open.{openRule}
 use Rattle.section.specs.Records.{recordSize}
 use Rattle.section.specs.Walk.{stateWith, Walked, walk}
-use Rattle.section.specs.Section.{stateRule, roomRule, sectionRule, Answer, Refused, Gave, gave, answerBy, sectionOf, joined}
+use Rattle.section.specs.Section.{stateRule, levelsRule, roomRule, sectionRule, Answer, Refused, Gave, gave, answerBy, sectionOf, joined}
 use Rattle.section.proofs.Walks.{machines, walk-machines, walk-more, walk-count}
 use Rattle.section.proofs.Accepted.{own-accepted}
 use Rattle.noninterference.specs.Revoiced.{Lent}
@@ -177,18 +177,18 @@ module _ (u : Tune) (l : Lent u) (o : openRule (u .tables) (u .opening) ≡ 0) w
   unfolding openRule
   tables-kept = sound _ _ o .0
 
-  state-kept : (m : ℕ) → m ≤ 2 ^ 32 → stateRule (machineState u m) ≡ 0
+  state-kept : (m : ℕ) → m ≤ 2 ^ 32 → (stateRule (machineState u m) ≡ 0) × (levelsRule (machineState u m) ≡ 0)
   unfolding openRule
   state-kept m h =
-      ap (λ (w : Walked). stateRule (w .state)) (sym (machine-is u m))
-      ∙ own-accepted (u .tables) (u .opening) m tables-kept (sound (tablesRule (u .tables)) _ o .1) (l .cells) (l .speed) h
+      subst (λ (w : Walked). (stateRule (w .state) ≡ 0) × (levelsRule (w .state) ≡ 0)) (machine-is u m)
+      (own-accepted (u .tables) (u .opening) m tables-kept (sound (tablesRule (u .tables)) _ o .1) (l .cells) (l .speed) h)
 
   -- within 2^32 rows a call is answered by its share
   section-is : (m : ℕ) (c : Call) → m ≤ 2 ^ 32 → sectionOf (u .tables) (machineState u m) (c .size) (c .room) ≡ share u m c
   unfolding sectionOf sectionRule share allowed roomRule
   section-is m c h =
       ap (λ (r : ℕ). answerBy r (machineState u m) (walk (u .tables) (c .size) (machineState u m)))
-      (next _ _ tables-kept ∙ next _ (roomRule (c .size) (c .room)) (state-kept m h))
+      (next _ _ tables-kept ∙ next _ _ (state-kept m h .0) ∙ next _ (roomRule (c .size) (c .room)) (state-kept m h .1))
       ∙ by-room (ltb 65535 (c .size) || ltb (c .room) (recordSize * c .size)) (machineState u m) (walk (u .tables) (c .size) (machineState u m))
       ∙ ap (λ (a : Answer). pick (allowed c) a (Refused 12 (machineState u m))) (gift-is u m (c .size))
 

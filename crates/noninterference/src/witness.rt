@@ -1,4 +1,4 @@
-// Demand 3 of calls that this makes: it can be drawn only from what `open` and `section` promise.
+// Demand 3, and the levels of 2026-08, of calls that this makes: both can be drawn only from what `open` and `section` promise.
 ghost use mathlib.Core.Path.{_≡_};
 ghost use mathlib.Core.Logic.{_≢_};
 ghost use mathlib.Core.List.{[], _∷_};
@@ -6,6 +6,7 @@ ghost use Rattle.section.specs.Tables.{Tune, lent};
 ghost use Rattle.section.specs.Open.{openOf};
 ghost use Rattle.section.specs.Section.{Refused, sectioned};
 ghost use Rattle.section.specs.Made.{Made};
+ghost use Rattle.section.specs.Levelled.{LevelsKept};
 ghost use Rattle.noninterference.specs.Made.{MadeOn, HoweverRevoiced};
 use section::open::open;
 use section::state::Opened;
@@ -40,7 +41,7 @@ pub fn two_calls(
         → let u : Tune = record { tables = lent (now (orders .entry)) (now (cells .entry)) (now (samples .entry)); opening = o } in
         let first : Made = record { size = size; before = now (output .entry); after = now (output .exit); answer = r .first } in
         let second : Made = record { size = «next_size»; before = now («next_output» .entry); after = now («next_output» .exit); answer = r .second } in
-        MadeOn u (r .opened) (first ∷ second ∷ []) × HoweverRevoiced u (first ∷ second ∷ [])) ⌝ }
+        MadeOn u (r .opened) (first ∷ second ∷ []) × HoweverRevoiced u (first ∷ second ∷ []) × LevelsKept (first ∷ second ∷ [])) ⌝ }
 {
     let opened = open(orders, cells, samples, o);
     let s = opened.state;

@@ -19,3 +19,4 @@ pub mod Reading
 pub mod Opened
 pub mod Walking
 pub mod Equal
+pub mod Uncut

@@ -1,6 +1,7 @@
 pub mod State
 pub mod Constants
 pub mod Fields
+pub mod Cut
 pub mod New
 pub mod Helpers
 pub mod Player

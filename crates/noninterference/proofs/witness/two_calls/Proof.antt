@@ -6,6 +6,8 @@ use Rattle.section.specs.declared.state.Opened.{Opened}
 use Rattle.section.specs.Tables.{Tune}
 use Rattle.section.specs.Section.{sectioned}
 use Rattle.section.specs.Made.{Made, Promised}
+use Rattle.section.specs.Levelled.{LevelsKept}
+use Rattle.section.proofs.Levelled.{levels-kept}
 use Rattle.noninterference.specs.Made.{MadeOn, HoweverRevoiced}
 use Rattle.noninterference.proofs.Theorem.{made-kept}
 use Rattle.noninterference.proofs.witness.two_calls.Statement.{statement}
@@ -30,9 +32,9 @@ same-length c = search needs
 same-length-2 : tie.Need-same-length-2
 same-length-2 c = search needs
 
--- calls that were made, and demand 3 of them
-upheld : (u : Tune) (o : Opened) (ms : List Made) → MadeOn u o ms → MadeOn u o ms × HoweverRevoiced u ms
-upheld u o ms h = (h, made-kept u o ms h)
+-- calls that were made, demand 3 of them, and their levels
+upheld : (u : Tune) (o : Opened) (ms : List Made) → MadeOn u o ms → MadeOn u o ms × HoweverRevoiced u ms × LevelsKept ms
+upheld u o ms h = (h, made-kept u o ms h, levels-kept (u .tables) (u .opening) o ms (h .answer) (h .accepted) (h .calls) .1)
 
 returns-2 : tie.Need-returns-2
 unfolding Promised
