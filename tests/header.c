@@ -1,7 +1,7 @@
 /* The header and the archive alone. Prints the sheet of the S3M file on standard input. With the argument `null` it tries
  * NULL with length 0 everywhere, with `strikes` their order, with `closed` whether that file is closed, with `transposed`
- * its pitch an octave up, with `head` the punch head on its rows, with `columns` its rows stored and restored, with `stack`
- * how much stack the calls on that file take. */
+ * its pitch an octave up, with `levels` volumes and pans about their limits, with `head` the punch head on its rows, with
+ * `columns` its rows stored and restored, with `stack` how much stack the calls on that file take. */
 #define _GNU_SOURCE
 #include "lomqashe.h"
 #include <math.h>
@@ -296,6 +296,30 @@ static void transposed(void)
     give_tables_back();
 }
 
+/* A channel's volume and pan at their limits, and above: refused, and nothing is written. */
+static void levels(void)
+{
+    static const struct {
+        uint8_t adlib, volume, pan, refusal;
+    } cases[] = {{0, 63, 15, 0}, {1, 64, 15, 0}, {0, 64, 15, 17}, {1, 65, 15, 17}, {0, 200, 8, 17}, {0, 0, 16, 17}};
+    uint8_t before[LOMQASHE_STATE_SIZE];
+    measure();
+    lend_tables();
+    read_tables();
+    for (size_t i = 0; i < sizeof cases / sizeof *cases; i++) {
+        uint8_t *channel = state + 64 + 31 * 80;
+        open_tune();
+        channel[17] = cases[i].volume;
+        channel[18] = cases[i].pan;
+        channel[42] = cases[i].adlib;
+        memcpy(before, state, sizeof state);
+        section();
+        check(LOMQASHE_REFUSAL(answer) == cases[i].refusal, "a level about its limit");
+        check(answer >> 24 == 0 || memcmp(before, state, sizeof state) == 0, "the state where a level is refused");
+    }
+    give_tables_back();
+}
+
 /* The registers are these: command, status, and mask and start of a record. */
 static void expect_head(uint8_t command, uint8_t status, const uint8_t *record, const char *what)
 {
@@ -488,6 +512,8 @@ int main(int argc, char **argv)
         closed_tunes();
     } else if (strcmp(argv[1], "transposed") == 0) {
         transposed();
+    } else if (strcmp(argv[1], "levels") == 0) {
+        levels();
     } else if (strcmp(argv[1], "head") == 0) {
         punch_head();
     } else if (strcmp(argv[1], "columns") == 0) {

@@ -51,6 +51,7 @@
  *     15       the registers are not 16 bytes, their byte 2 or 3 is not 0, or a bit of the status
  *              other than 0, 1 and 7 is set
  *     16       m is 0 or above 65,535, or the records or the columns are not m * 536 bytes
+ *     17       a channel of the state has a volume above 63, or 64 where it is AdLib, or a pan above 15
  *     255      counts, opening or state is not LOMQASHE_COUNTS_SIZE, _OPENING_SIZE or _STATE_SIZE
  *              bytes long, or the command is above 255
  *
@@ -233,9 +234,13 @@ uint32_t lomqashe_open_closed(const uint8_t *orders, size_t orders_size,
  * A row whose T commands, all of them together, take the tempo from t to u first makes the
  * remainder remainder * u / t, cut down. No row is longer than 1,992,188.
  *
+ * A channel's volume is at most 63, on an AdLib channel 64, and its pan at most 15: states above
+ * these limits are refused (17), and from others every row, its record and the state behind it keeps
+ * them. The global volume, the voices' global volumes and the stored volumes are not looked at.
+ *
  * Gives the number of rows in bits 0 to 15, LOMQASHE_ROWS(), and in bit 16, LOMQASHE_ENDED(),
  * whether the tune has ended. Fewer than n rows come only where it has. Refuses with 255 (state),
- * 9, 11 and 12.
+ * 9, 11, 17 and 12.
  */
 uint32_t lomqashe_section(const uint8_t *orders, size_t orders_size,
                           const uint8_t *cells, size_t cells_size,

@@ -22,7 +22,7 @@ impl Refusal {
         (number != 0).then_some(Refusal(number))
     }
 
-    /// 1 to 16, or 255 where a length at the library's border is wrong or a command is above 255.
+    /// 1 to 17, or 255 where a length at the library's border is wrong or a command is above 255.
     pub fn number(self) -> u8 {
         self.0
     }
@@ -58,6 +58,7 @@ impl Refusal {
             16 => {
                 "the records to store or restore are not 1 to 65,535 of 536 bytes each, or the output has another length"
             }
+            17 => "a channel of the state has a volume above 63, or 64 on an AdLib channel, or a pan above 15",
             _ => "a length at the library's border is wrong, or a command is above 255",
         }
     }

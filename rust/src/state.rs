@@ -1,7 +1,8 @@
 //! The state between two sections.
 
 use crate::bytes::{u16_at, u64_at};
-use crate::{CHANNELS, Refusal};
+use crate::levels::first_level_above;
+use crate::{CHANNELS, LevelAbove, Refusal};
 use std::fmt;
 
 /// Where a tune stands between two sections, with all that its next row depends on. It is a string of bytes that can be
@@ -105,6 +106,25 @@ impl State {
     /// ```
     pub fn transpositions(&self) -> [i8; CHANNELS] {
         std::array::from_fn(|k| self.0[64 + 80 * k + 45] as i8)
+    }
+
+    /// The first channel's level that is above its limit, of a volume before that of a pan. No section goes on from such a
+    /// state (rule 17), and none gives one back.
+    ///
+    /// ```
+    /// use lomqashe::{LevelAbove, State, Tune};
+    /// let tune = Tune::read(include_bytes!("../../oracle/examples/worked.s3m"), 60_000)?;
+    /// let mut bytes = *tune.open()?.as_bytes();
+    /// assert_eq!(State::from_bytes(&bytes).first_level_above(), None);
+    /// // The volume of channel 4.
+    /// bytes[64 + 80 * 4 + 17] = 200;
+    /// let state = State::from_bytes(&bytes);
+    /// assert_eq!(state.first_level_above(), Some(LevelAbove::Volume { channel: 4, volume: 200, limit: 63 }));
+    /// assert_eq!(tune.rows_from(state, 50).unwrap_err().number(), 17);
+    /// # Ok::<(), lomqashe::Refusal>(())
+    /// ```
+    pub fn first_level_above(&self) -> Option<LevelAbove> {
+        first_level_above(&self.0)
     }
 }
 

@@ -143,7 +143,7 @@ impl Tune {
     }
 
     /// Up to `rows` rows from the state on, each a record of 536 bytes in `output`; the state moves behind them. Where it is
-    /// refused (rules 9, 11 and 12) state and output stay as they were.
+    /// refused (rules 9, 11, 17 and 12) state and output stay as they were.
     ///
     /// ```
     /// let tune = lomqashe::Tune::read(include_bytes!("../../oracle/examples/worked.s3m"), 60_000)?;
@@ -170,7 +170,7 @@ impl Tune {
         self.rows_from(self.open()?, section)
     }
 
-    /// The same from a state on, or why no section can go on from it (rules 9 and 11).
+    /// The same from a state on, or why no section can go on from it (rules 9, 11 and 17).
     pub fn rows_from(&self, state: State, section: u32) -> Result<Rows<'_>, Refusal> {
         Rows::new(self, state, section)
     }
@@ -191,7 +191,8 @@ impl Tune {
         Ok(self.sections_from(self.open()?, rows))
     }
 
-    /// The same from a state on. One that no section can go on from is refused in the first item (rules 9 and 11).
+    /// The same from a state on. One that no section can go on from is refused in the first item (rules 9,
+    /// 11 and 17).
     pub fn sections_from(&self, state: State, rows: u32) -> Sections<'_> {
         Sections::new(self, state, rows)
     }

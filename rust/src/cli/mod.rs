@@ -10,7 +10,7 @@ mod walk;
 use args::{Args, Wish};
 use drawing::{Drawing, Plan};
 use files::Saved;
-use lomqashe::{Breach, MOST_ROWS, Refusal, Repeat, State, Tune};
+use lomqashe::{MOST_ROWS, Refusal, Repeat, State, Tune};
 use sheet::Printer;
 use std::ffi::OsString;
 use std::fs::File;
@@ -58,8 +58,9 @@ read or written.
 
 /// 60 mm of card a second.
 const RATE: u32 = 60_000;
-/// The rule by which a tune is refused that is not closed.
+/// The rule by which a tune is refused that is not closed, and that by which a state is whose levels cannot be real.
 const NOT_CLOSED: u8 = 14;
+const LEVELS: u8 = 17;
 
 /// What went wrong, and the exit status that says so.
 enum Trouble {
@@ -70,10 +71,10 @@ enum Trouble {
     Output(io::Error),
 }
 
-/// A refusal, and what keeps a tune from being closed.
+/// A refusal, and what breaks the rule where that can be named: a cell, or a channel's level.
 struct Refused {
     refusal: Refusal,
-    breach: Option<Breach>,
+    breach: Option<String>,
 }
 
 impl From<Refusal> for Refused {
@@ -84,7 +85,10 @@ impl From<Refusal> for Refused {
 
 impl Refused {
     fn told(&self) -> String {
-        let breach = self.breach.map_or(String::new(), |breach| format!(": {breach}"));
+        let breach = self
+            .breach
+            .as_ref()
+            .map_or(String::new(), |breach| format!(": {breach}"));
         format!("refused: {}{breach}", self.refusal)
     }
 }
@@ -176,15 +180,19 @@ fn print_rows(
 ) -> Result<Printed, Refused> {
     let mut run = run_asked_for(file, saved, args)?;
     let repeat = match args.once {
-        true => run.tune.first_repeat_from(&run.state, run.most)?,
+        true => run
+            .tune
+            .first_repeat_from(&run.state, run.most)
+            .map_err(|refusal| of_state(refusal, &run.state))?,
         false => None,
     };
     run.most = repeat.map_or(run.most, |repeat| repeat.rows);
-    let end = run.walk(|row| {
+    let walked = run.walk(|row| {
         printer.row(&row.record);
         plan.see(row);
         printer.is_open() || is_wanted(args, plan)
-    })?;
+    });
+    let end = walked.map_err(|refusal| of_state(refusal, &run.state))?;
     let word = match (end.ended, repeat) {
         (true, _) => "end",
         (false, Some(_)) => "repeats",
@@ -231,8 +239,22 @@ fn run_asked_for(file: &[u8], saved: Option<Saved>, args: &Args) -> Result<Run, 
 fn open_closed(tune: &Tune) -> Result<State, Refused> {
     tune.open_closed().map_err(|refusal| Refused {
         refusal,
-        breach: (refusal.number() == NOT_CLOSED).then(|| tune.first_breach()).flatten(),
+        breach: (refusal.number() == NOT_CLOSED)
+            .then(|| tune.first_breach())
+            .flatten()
+            .map(|breach| breach.to_string()),
     })
+}
+
+/// The refusal of a state to go on from.
+fn of_state(refusal: Refusal, state: &State) -> Refused {
+    let above = (refusal.number() == LEVELS)
+        .then(|| state.first_level_above())
+        .flatten();
+    Refused {
+        refusal,
+        breach: above.map(|above| above.to_string()),
+    }
 }
 
 fn tell_repeat(repeat: &Repeat, run: &Run) {
