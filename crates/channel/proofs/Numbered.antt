@@ -18,8 +18,7 @@ use Rattle.channel.specs.Pitches.{frequencyOn}
 use Rattle.channel.specs.Levels.{silence}
 use Rattle.channel.specs.Play.{cut, aimed, started}
 use Rattle.channel.specs.Commands.{fineSlid, finetuned}
-use Rattle.channel.specs.Channels.{channelsEntered}
-use Rattle.channel.proofs.Each.{Each, RowKeeps, each-entered}
+use Rattle.channel.proofs.Each.{Each, RowKeeps}
 use Rattle.channel.proofs.Steps.{StepsKeep, entered-keeps}
 
 silence-number : T (not (isNan silence))

@@ -2,7 +2,7 @@
 use lib.Dec.{T}
 use lib.Ieee.{isNan}
 use Rattle.laws.specs.Refusals.{orElse}
-use Rattle.tune.specs.Sizes.{tablesFit, rule9}
+use Rattle.tune.specs.Sizes.{rule9}
 use Rattle.tune.specs.Samples.{sampleAt, sampleOf}
 use Rattle.row_path.specs.First.{firstPath}
 use Rattle.channel.specs.LevelLimits.{levelAbove}

@@ -28,8 +28,8 @@ use Rattle.original.proofs.Leaving.{leaving-same}
 use Rattle.original.proofs.Reading.{record-read}
 use Rattle.original.proofs.Walking.{turns-equal, reads-equal, walk-keeps, walk-untransposed}
 
--- Entering: on tables that rule 9 accepts and an untransposed state that rule 11 accepts, the Rust's `enter_row` gives the map of our
--- entered row. What Read gives is untransposed, and stays so (`AsOriginal`): this holds wherever the premise stands below
+-- Entering: on tables that rule 9 accepts and an untransposed state that rule 11 accepts, whatever its levels, the Rust's `enter_row` gives
+-- the map of our entered row. What Read gives is untransposed, and stays so (`AsOriginal`): this holds wherever the premise stands below
 pub enter-row-equal : (t : Tables) (s : State) → tablesRule t ≡ 0 → stateRule s ≡ 0 → ByteTables t → Shaped s → Untransposed (s .channels)
     → «enter_row» (songOf t (s .switches)) (stateMap s) ≡ enteredMap t s (rowFrom t s)
 enter-row-equal t s nine eleven bytes shaped untransposed =

@@ -2,7 +2,7 @@
 use Prim.Native.Nat.{ℕ, _≤_, _<_}
 use mathlib.Core.Path.{_≡_, refl, sym, ap, _∙_, subst}
 use mathlib.Core.Bool.{Bool, true, false, _&&_, not}
-use mathlib.Core.List.{List, [], _∷_}
+use mathlib.Core.List.{List}
 use native.Mathlib.Omega.{arith}
 use borrow.Author.Tests.{ltb-true, ltb-false}
 use lib.Dec.{eqb, ltb}
@@ -21,32 +21,27 @@ use Rattle.row_path.proofs.Unmoved.{entered-size, left-size}
 use Rattle.channel.specs.Channels.{enteredAt, rowEntered, rowVisited}
 use Rattle.channel.specs.Memory.{hasMemory, slotOf, stored}
 use Rattle.channel.specs.declared.state.Channel.{Channel}
-use Rattle.channel.specs.declared.state.Switches.{Switches}
 use Rattle.channel.specs.declared.channels.Rowed.{Rowed}
 use Rattle.channel.proofs.Armed.{entered-memory, entered-fixed}
 use Rattle.channel.proofs.Each.{RowKeeps}
 use Rattle.channel.proofs.Own.{channels-length, channel-at}
 use Rattle.section.specs.Tables.{Tables}
-use Rattle.section.specs.Machines.{Voices, rowPlayed, voicesAfter, voicesBehind}
+use Rattle.section.specs.Machines.{rowPlayed, voicesAfter}
 use Rattle.section.specs.Walk.{voicesOf, stateWith}
 use Rattle.section.specs.Typed.{ShapedChannel, Shaped, ByteTables}
 use Rattle.section.specs.declared.state.State.{State}
-use Rattle.section.proofs.Accepted.{voices-each}
+use Rattle.section.proofs.Accepted.{played-each}
 use Rattle.original.specs.Map.{rowFrom}
 use Rattle.original.specs.Untransposed.{Untransposed}
 use Rattle.original.proofs.Leaving.{behind}
 
 -- a row leaves a channel's transposition
-row-untransposed : RowKeeps (λ c. c .fixed .transposition ≡ pos 0)
+pub row-untransposed : RowKeeps (λ c. c .fixed .transposition ≡ pos 0)
 row-untransposed c l sInfo samples w g z = ap (λ (f : Fixed). f .transposition) (entered-fixed c l sInfo samples w g) ∙ z
 
--- so do any rows of the channel machine
-pub voices-untransposed : (t : Tables) (w : Switches) (es : List Entered) (v : Voices) → Untransposed (v .channels) → Untransposed (voicesBehind t w es v .channels)
-voices-untransposed t w es v z i d = voices-each (λ c. c .fixed .transposition ≡ pos 0) row-untransposed t w d es v (λ k. z k d) i
-
 pub behind-untransposed : (t : Tables) (s : State) → Untransposed (s .channels) → Untransposed (behind t s .channels)
-unfolding stateWith voicesBehind
-behind-untransposed t s z = voices-untransposed t (s .switches) (rowFrom t s ∷ []) (voicesOf s) z
+unfolding stateWith
+behind-untransposed t s z i d = played-each (λ c. c .fixed .transposition ≡ pos 0) row-untransposed t (s .switches) d (rowFrom t s) (voicesOf s) (λ k. z k d) i
 
 -- a byte written into bytes
 set-bytes : (m : List ℕ) (i x : ℕ) → Bytes m → x < 256 → Bytes (set m i x)

@@ -1,9 +1,9 @@
 -- The Rust's `enter_row` leaves no level above its limit, so 02 has nothing to cut (2026-08). Assumes nothing.
-use Prim.Native.Nat.{ℕ, zero, suc, _<_, min}
-use mathlib.Core.Path.{_≡_, refl, sym, subst, subst⁻¹}
+use Prim.Native.Nat.{ℕ, suc, _<_, min}
+use mathlib.Core.Path.{_≡_, refl, subst, subst⁻¹}
 use mathlib.Core.List.{List, [], _∷_, map}
 use native.Mathlib.Omega.{arith}
-use lib.ListN.{length, getD}
+use lib.ListN.{length}
 use Rattle.laws.proofs.Picks.{choice}
 use Rattle.channel.specs.LevelLimits.{volumeLimit, Levels}
 use Rattle.channel.specs.declared.state.Channel.{Channel}
@@ -21,7 +21,7 @@ use Rattle.original.specs.New.{«Channel::default»}
 use Rattle.original.specs.Player.{«enter_row»}
 use Rattle.original.specs.State.{PlayerState}
 use Rattle.original.specs.Cut.{cutLevels}
-use Rattle.original.specs.Map.{songOf, rustChannel, rustChannels, playerOf, stateMap, rowFrom, patternThere, enteredMap}
+use Rattle.original.specs.Map.{songOf, rustChannels, playerOf, stateMap, rowFrom, patternThere, enteredMap}
 use Rattle.original.specs.Untransposed.{Untransposed}
 use Rattle.original.proofs.PassOver.{rust-at, rust-length}
 use Rattle.original.proofs.Equal.{enter-row-equal}

@@ -1,8 +1,9 @@
 -- The two walks side by side: a state that is accepted gives the same states and the same records row by row. Assumes nothing.
 use Prim.Native.Nat.{ℕ, zero, suc}
-use mathlib.Core.Path.{_≡_, refl, sym, ap, _∙_, subst}
+use mathlib.Core.Path.{_≡_, refl, sym, ap, _∙_}
 use mathlib.Core.Bool.{Bool, true, false, false≢true}
 use mathlib.Core.List.{List}
+use lib.IntN.{pos}
 use Rattle.laws.specs.Choice.{pick}
 use Rattle.laws.proofs.Picks.{choice, chain}
 use Rattle.tune.proofs.Sized.{Sized}
@@ -24,6 +25,7 @@ use Rattle.section.specs.Machines.{rowPlayed, recordOf}
 use Rattle.section.specs.Walk.{voicesOf, stateWith, stepBy, step, Walked, onto, goOn, walk}
 use Rattle.section.specs.Typed.{Shaped, ByteTables}
 use Rattle.section.specs.declared.state.State.{State}
+use Rattle.section.proofs.Accepted.{walk-each}
 use Rattle.section.proofs.Walks.{machines, walk-machines}
 use Rattle.original.specs.State.{Song, PlayerState}
 use Rattle.original.specs.New.{«Channel::default»}
@@ -36,7 +38,7 @@ use Rattle.original.proofs.Arms.{first, second}
 use Rattle.original.proofs.Entering.{entering-same}
 use Rattle.original.proofs.Leaving.{going-there, map-played, leaving-same, behind}
 use Rattle.original.proofs.Reading.{clock-read, record-read}
-use Rattle.original.proofs.Staying.{behind-sound, behind-shaped, voices-untransposed, behind-untransposed}
+use Rattle.original.proofs.Staying.{behind-sound, behind-shaped, row-untransposed, behind-untransposed}
 
 -- a row that ended the tune leaves the channels, and no jump waits
 closed-by : (cells : List ℕ) (s : State) (t : Tables) (at : ℕ) (x : ByteOption) → s .path .ended ≡ false → enteredAt cells (s .path) at x .path .ended ≡ true
@@ -79,10 +81,7 @@ walk-keeps t n s =
 
 -- and every channel's transposition, where it is 0
 pub walk-untransposed : (t : Tables) (n : ℕ) (s : State) → Untransposed (s .channels) → Untransposed (walk t n s .state .channels)
-unfolding machines stateWith
-walk-untransposed t n s z =
-    subst (λ (w : Walked). Untransposed (w .state .channels)) (sym (walk-machines t n s))
-    (voices-untransposed t (s .switches) (pathWalk (t .orders) (t .cells) n (s .path) .rows) (voicesOf s) z)
+walk-untransposed t n s z i d = walk-each (λ c. c .fixed .transposition ≡ pos 0) row-untransposed t n s d (λ k. z k d) i
 
 -- what our walk gives to be read
 abbrev pub readOff : Walked → ReadOff

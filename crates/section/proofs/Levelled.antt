@@ -34,7 +34,7 @@ use Rattle.section.specs.declared.state.State.{State}
 use Rattle.section.specs.declared.state.Opened.{Opened}
 use Rattle.section.specs.declared.state.Sectioned.{Sectioned}
 use Rattle.section.specs.Tables.{Tables, tablesRule}
-use Rattle.section.specs.Open.{freshState, openRule, openOf}
+use Rattle.section.specs.Open.{openRule, openOf}
 use Rattle.section.specs.Records.{headSize, channelSize, recordSize, volumeAt, panAt, channelBytes, channelsBytes, recordBytes}
 use Rattle.section.specs.Machines.{Voices, rowPlayed, recordOf, voicesAfter, voicesBehind}
 use Rattle.section.specs.Walk.{voicesOf, stateWith, Walked, walk}

@@ -165,7 +165,7 @@ fn walk(
     given(rows, path, channels, global, s.switches)
 }
 
-// Section: up to n rows, each a record of 536 bytes; or 9, 11 or 12 and the state that it was given. `typed` has what the
+// Section: up to n rows, each a record of 536 bytes; or 9, 11, 17 or 12 and the state that it was given. `typed` has what the
 // theorems on a call presuppose.
 pub fn section(
     orders: &[u8],
