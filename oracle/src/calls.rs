@@ -177,7 +177,7 @@ pub fn answer(call: &Call) -> Answer {
     Answer { number, slots }
 }
 
-/// What a call gives that breaks none of the rules 9 to 16.
+/// What a call gives that breaks none of the rules 9 to 17.
 fn write(call: &Call, slots: &mut Slots) -> Result<u32, u8> {
     match call.function {
         Measure => {

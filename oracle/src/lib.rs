@@ -8,6 +8,7 @@ pub mod cover;
 pub mod generate;
 pub mod head;
 mod layout;
+pub mod levels;
 pub mod list;
 pub mod plan;
 pub mod random;

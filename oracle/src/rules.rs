@@ -1,10 +1,11 @@
-//! Rules 9 to 16 written from 01 and 02 alone, and 255 from the border: the original refuses nothing.
+//! Rules 9 to 17 written from 01 and 02 alone, and 255 from the border: the original refuses nothing.
 
 use crate::calls::{Call, Function};
 use crate::card::unit;
 use crate::closed;
 use crate::columns::{LEAST_RECORDS, MOST_RECORDS};
 use crate::head::{INTERRUPT, LATE, LOAD, LOADED, REGISTERS_BYTES, STATUS};
+use crate::levels::{MOST_PAN, most_volume};
 use crate::state::{STATE_BYTES, State};
 use crate::transposed::SPAN;
 use crate::tune::{OPENING_BYTES, Opening, PATTERN_BYTES, RECORD_BYTES, SAMPLE_BYTES, Tune};
@@ -42,8 +43,9 @@ pub fn facts(call: &Call) -> Vec<Fact> {
         Function::IsClosed => tables(a, b, c),
         Function::OpenClosed => [open(call), not_closed(&call.tune())].concat(),
         Function::Section => {
-            let state = [length(d, STATE_BYTES, "state"), tables(a, b, c), state(d)];
-            [state.concat(), output(call.number, e)].concat()
+            let state = [state(d), levels(d)].concat();
+            let lengths = length(d, STATE_BYTES, "state");
+            [lengths, tables(a, b, c), state, output(call.number, e)].concat()
         }
         Function::Strikes => record(a, b, STRIKES_BYTES),
         Function::Line => record(a, b, LINE_BYTES),
@@ -120,6 +122,24 @@ fn state(bytes: &[u8]) -> Vec<Fact> {
         (transposition(is_above), "transposition above 24"),
     ];
     of_rule(11, facts)
+}
+
+/// 02: 'Section shall refuse channel volumes, not the global ones, above 63, or 64 on AdLib channels, and pans above 15.'
+fn levels(bytes: &[u8]) -> Vec<Fact> {
+    if bytes.len() != STATE_BYTES {
+        return Vec::new();
+    }
+    let channels = State::decode(bytes).channels;
+    let too_loud = |adlib: bool| {
+        let mut alike = channels.iter().filter(|ch| ch.adlib == adlib);
+        alike.any(|ch| ch.volume > most_volume(adlib))
+    };
+    let facts = [
+        (too_loud(false), "volume above 63 on PCM"),
+        (too_loud(true), "volume above 64 on AdLib"),
+        (channels.iter().any(|ch| ch.pan > MOST_PAN), "pan above 15"),
+    ];
+    of_rule(17, facts)
 }
 
 fn is_below(transposition: i8) -> bool {

@@ -10,7 +10,14 @@ use crate::tune::CHANNELS;
 pub const HEAD_BYTES: usize = 64;
 pub const CHANNEL_BYTES: usize = 80;
 pub const STATE_BYTES: usize = HEAD_BYTES + CHANNELS * CHANNEL_BYTES;
-/// Where a channel has its transposition.
+/// Where the head has the global volume.
+pub const GLOBAL_VOLUME: usize = 12;
+/// Where a channel has its levels, its AdLib mark and its transposition.
+pub const VOLUME: usize = 17;
+pub const PAN: usize = 18;
+pub const STORED_VOLUME: usize = 36;
+pub const ADLIB: usize = 42;
+pub const VOICE_GLOBAL_VOLUME: usize = 44;
 pub const TRANSPOSITION: usize = 45;
 /// The S infos stand in the head, and not in this slot of a channel's memory.
 pub const S_SLOT: usize = 19;
