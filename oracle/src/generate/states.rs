@@ -1,12 +1,16 @@
-//! Odd states: bytes that rule 11 accepts, most of them any, with nothing waiting and not ended.
+//! Odd states: bytes that rules 11 and 17 accept, most of them any, with nothing waiting and not ended.
 
 use super::cells::special;
 use super::tunes::{rate, transpositions};
 use super::{noise, unset};
 use crate::card::unit;
+use crate::levels::{MOST_PAN, most_volume};
 use crate::random::Random;
 use crate::rules::MOST_START;
-use crate::state::{CHANNEL_BYTES, HEAD_BYTES, KEYED, NO_VOICE, RELEASED, STATE_BYTES, State, TRANSPOSITION};
+use crate::state::{
+    ADLIB, CHANNEL_BYTES, HEAD_BYTES, KEYED, NO_VOICE, PAN, RELEASED, STATE_BYTES, STORED_VOLUME, State, TRANSPOSITION,
+    VOLUME,
+};
 use crate::tune::Tune;
 
 pub fn odd_state(random: &mut Random, tune: &Tune) -> State {
@@ -80,10 +84,12 @@ fn put_channel(random: &mut Random, samples: u8, part: &mut [u8]) {
     }
     part[8..16].copy_from_slice(&sample_pos(random).to_le_bytes());
     part[16] = random.weighted(&[(8, part[16] % (samples + 1)), (1, samples + 1), (1, 255)]);
-    for at in [17, 36] {
-        part[at] = random.weighted(&[(5, part[at] % 65), (1, 64), (1, 0), (2, part[at])]);
-    }
-    part[18] = random.weighted(&[(4, part[18] & 15), (3, part[18])]);
+    // Of an AdLib channel; cut below, where the mark is settled.
+    let most = most_volume(true);
+    part[VOLUME] = random.weighted(&[(5, part[VOLUME] % most), (1, most - 1), (1, 0), (2, most)]);
+    let stored = part[STORED_VOLUME];
+    part[STORED_VOLUME] = random.weighted(&[(5, stored % 65), (1, 64), (1, 0), (2, stored)]);
+    part[PAN] = random.weighted(&[(4, part[PAN] % (MOST_PAN + 1)), (3, MOST_PAN)]);
     part[20] %= 31;
     let usual = random.between(0, 8) << 4 | random.between(0, 11);
     part[24] = random.weighted(&[(5, usual), (2, 0), (1, 0xFE), (1, 0xFF), (2, part[24])]);
@@ -92,8 +98,9 @@ fn put_channel(random: &mut Random, samples: u8, part: &mut [u8]) {
     part[43] = random.weighted(&[(6, NO_VOICE), (2, KEYED), (2, RELEASED)]);
     let (active, delay, glissando) = ((19, 30), (25, 75), (30, 70));
     unset(random, part, &[active, delay, glissando, (37, 60), (38, 60)]);
-    let (muted, frozen, right_bank, adlib) = ((39, 80), (40, 60), (41, 50), (42, 60));
+    let (muted, frozen, right_bank, adlib) = ((39, 80), (40, 60), (41, 50), (ADLIB, 60));
     unset(random, part, &[muted, frozen, right_bank, adlib]);
+    part[VOLUME] = part[VOLUME].min(most_volume(part[ADLIB] != 0));
     for at in 48..75 {
         unset(random, part, &[(at, 25)]);
     }
