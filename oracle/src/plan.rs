@@ -30,7 +30,7 @@ const PARTS: [u32; 3] = [PARTED_ROWS, 7, 1];
 const VISITED: u64 = 30;
 const VISITS: usize = 30;
 const REFUSED_SEED: u64 = 939;
-const REFUSED: usize = 4_000;
+const REFUSED: usize = 5_000;
 /// Every so many rows one is put to Strikes and Line.
 const RECORDS: usize = 23;
 const SPARE: [usize; 4] = [0, 1, 7, 535];
@@ -127,7 +127,7 @@ fn visits(seed: u64) -> Vec<Group> {
     (0..VISITS).map(visit).collect()
 }
 
-/// Calls that break rules 9 to 13 and 255, on one tune.
+/// Calls that break rules 9 to 13, 17 and 255, on one tune.
 fn refused() -> impl Iterator<Item = Group> {
     let mut random = Random::new(REFUSED_SEED);
     let tune = generate::tune(&mut random, Purpose::Walks, REFUSED_SEED);

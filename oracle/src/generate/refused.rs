@@ -1,14 +1,15 @@
-//! Calls that may break any of the rules 9 to 14 and 255, alone or together.
+//! Calls that may break any of the rules 9 to 14, 17 and 255, alone or together.
 
 use super::tunes::opening;
 use super::{closed, noise, odd_bytes};
 use crate::calls::{Call, Function};
 use crate::card::unit;
+use crate::levels::{MOST_PAN, most_volume};
 use crate::list::ROOMS;
 use crate::random::Random;
 use crate::rules::MOST_START;
-use crate::state::TRANSPOSITION;
-use crate::tune::{OPENING_BYTES, PATTERN_BYTES, RECORD_BYTES, SAMPLE_BYTES, TRANSPOSITIONS, Tune, WORKED};
+use crate::state::{ADLIB, CHANNEL_BYTES, HEAD_BYTES, PAN, STORED_VOLUME, TRANSPOSITION, VOICE_GLOBAL_VOLUME, VOLUME};
+use crate::tune::{CHANNELS, OPENING_BYTES, PATTERN_BYTES, RECORD_BYTES, SAMPLE_BYTES, TRANSPOSITIONS, Tune, WORKED};
 
 /// What the worked example needs.
 const LENT: [usize; 3] = [1, SAMPLE_BYTES, PATTERN_BYTES];
@@ -87,10 +88,11 @@ fn transposition(random: &mut Random) -> u8 {
     random.one(&[any, 25, 127, 128, 231])
 }
 
-/// Section with a state and a size that may break rules 11 and 12.
+/// Section with a state and a size that may break rules 11, 17 and 12.
 fn section(random: &mut Random, tune: &Tune) -> Call {
     let mut state = odd_bytes(random, tune);
     break_state(random, &mut state);
+    break_levels(random, &mut state);
     let (n, far) = (random.below(4) as u32, 65_536 + random.below(1 << 31) as u32);
     let mut call = Call::section(tune, state, n, random.index(2));
     call.number = random.weighted(&[(4, n), (1, n + 1), (1, far)]);
@@ -123,6 +125,27 @@ fn break_state(random: &mut Random, state: &mut [u8]) {
             put(24, &MOST_START.to_le_bytes());
         }
         14 | 15 => put(channel + TRANSPOSITION, &[transposition(random)]),
+        _ => {}
+    }
+}
+
+/// A level that a channel may not have, or the last ones that rule 17 lets through, beside volumes that it does not ask for.
+fn break_levels(random: &mut Random, state: &mut [u8]) {
+    let channel = HEAD_BYTES + CHANNEL_BYTES * random.index(CHANNELS);
+    let part = &mut state[channel..][..CHANNEL_BYTES];
+    let most = most_volume(part[ADLIB] != 0);
+    let [volume, pan] = [most, MOST_PAN].map(|most| {
+        let any = random.between(most + 1, 255);
+        random.one(&[most + 1, any, 200, 255])
+    });
+    match random.below(24) {
+        0 | 1 => part[VOLUME] = volume,
+        2 => part[PAN] = pan,
+        3 => (part[VOLUME], part[PAN]) = (volume, pan),
+        4 => {
+            (part[VOLUME], part[PAN]) = (most, MOST_PAN);
+            (part[STORED_VOLUME], part[VOICE_GLOBAL_VOLUME]) = (200, 200);
+        }
         _ => {}
     }
 }
