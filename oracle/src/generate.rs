@@ -5,6 +5,7 @@ pub mod closed;
 pub mod columns;
 pub mod files;
 pub mod head;
+pub mod levels;
 pub mod pitch;
 pub mod records;
 pub mod refused;

@@ -4,6 +4,7 @@
 mod closed;
 mod columns;
 mod head;
+pub mod levels;
 mod pitch;
 mod strikes;
 pub mod transposed;
@@ -39,6 +40,7 @@ pub fn recorded() -> Vec<Case> {
     let mut chosen = strikes::groups();
     chosen.extend(closed::groups());
     chosen.extend(transposed::groups());
+    chosen.extend(levels::groups());
     let first = chosen.len() + FIRST_FILES;
     let groups = chosen
         .into_iter()
