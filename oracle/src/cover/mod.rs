@@ -6,6 +6,7 @@ mod closed;
 mod columns;
 mod files;
 mod head;
+mod levels;
 mod refusals;
 mod rows;
 mod sections;
@@ -26,7 +27,7 @@ use std::path::Path;
 const MOST_BYTES: u64 = 3_000_000;
 
 /// So many things are asked for: none may drop out because nothing looks for it.
-const ASKED: usize = 10_226;
+const ASKED: usize = 10_407;
 
 /// Where a thing must be seen, behind its name: anywhere, from states, or there and along walks from Open.
 type Needed = &'static [&'static str];
@@ -180,6 +181,7 @@ fn asked() -> Tally {
         head::needs,
         columns::needs,
         transposed::needs,
+        levels::needs,
     ] {
         needs(&mut tally);
     }
@@ -197,6 +199,7 @@ fn see(tally: &mut Tally, lists: &mut Lists, case: &Case) -> Result<(), String> 
     if first > 0 {
         refusals::see(tally, case, &broken);
         transposed::see_refused(tally, case, &broken);
+        levels::see_refused(tally, case, &broken)?;
         return match case.call.function {
             Function::HeadStep => lists.steps.refused(tally, case),
             Function::Store | Function::Restore => columns::refused(tally, case),
@@ -208,6 +211,9 @@ fn see(tally: &mut Tally, lists: &mut Lists, case: &Case) -> Result<(), String> 
     let reads = case.call.function == Function::Read && refusal == 0;
     if opens || reads || case.call.function == Function::Section {
         transposed::see_taken(tally, case)?;
+    }
+    if opens || case.call.function == Function::Section {
+        levels::see_taken(tally, case)?;
     }
     let sections = &mut lists.sections;
     match case.call.function {

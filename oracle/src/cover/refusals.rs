@@ -1,6 +1,6 @@
-//! Refusals by rules 9 to 16 and by 255: each way to break them alone, and the order in which they are asked.
+//! Refusals by rules 9 to 17 and by 255: each way to break them alone, and the order in which they are asked.
 
-use super::Tally;
+use super::{Tally, levels};
 use crate::calls::Function;
 use crate::card::unit;
 use crate::list::Case;
@@ -36,6 +36,7 @@ pub fn needs(tally: &mut Tally) {
     tally.family("restore by rule {}", ["16"]);
     tally.family("section by rule {}", ["9", "9 before 11", "9 before 12"]);
     tally.family("section by rule {}", ["11 before 12", "9 before 11 before 12"]);
+    tally.family("section by rule {}", levels::ORDERS);
     tally.family("section by rule {}", ["255", "255 before 9"]);
     tally.family("measure by rule {}", ["255", "255, file of 0 bytes"]);
     tally.family("read by rule {}", ["255", "255, file of 0 bytes"]);

@@ -1,7 +1,7 @@
 //! Sections: where they start and end, their rows, and the same rows in parts.
 
 use super::rows::{self, Seen};
-use super::{Tally, card, transposed};
+use super::{Tally, card, levels, transposed};
 use crate::card::unit;
 use crate::list::Case;
 use crate::player::Channel;
@@ -127,6 +127,7 @@ fn see_row(tally: &mut Tally, tune: &Tune, [before, entered]: [&State; 2], recor
         let seen: Vec<Seen> = channels.map(seen).collect();
         rows::see(tally, tune, &seen, [before, entered]);
         transposed::see_row(tally, tune, &seen, entered.amiga_limits);
+        levels::see_row(tally, tune, &seen, entered.fast_slides);
     }
 }
 
@@ -198,8 +199,11 @@ fn see_channel(tally: &mut Tally, ch: &Channel, part: &[u8]) {
         (frequency.to_bits() == 1 << 31, "frequency -0.0"),
         (frequency.is_subnormal(), "frequency subnormal"),
         (frequency < 0.0 && frequency.is_finite(), "frequency negative"),
-        (ch.volume > 64, "volume above 64"),
-        (ch.pan > 15, "pan above 15"),
+        (ch.volume == 63 && !ch.adlib, "volume 63 on PCM"),
+        (ch.volume == 64 && ch.adlib, "volume 64 on AdLib"),
+        (ch.pan == 15, "pan 15"),
+        (ch.stored_volume > 64, "stored volume above 64"),
+        (ch.voice_global_vol > 64, "voice's global volume above 64"),
         (ch.last_note == 0xFE, "last note 0xFE"),
         (voice != NO_VOICE && !ch.adlib, "voice on a channel that is not AdLib"),
         (voice == RELEASED, "voice released before"),
