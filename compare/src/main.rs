@@ -7,6 +7,7 @@ mod closed;
 mod columns;
 mod files;
 mod head;
+mod levels;
 mod library;
 mod pitch;
 mod recorded;
@@ -65,6 +66,10 @@ fn compare(seed: u64, rows: u64) -> Result<(), String> {
     println!(
         "columns: {}, 0 differences",
         columns::compare(&mut Random::new(seed ^ 0xC015), rows / 1_000)?
+    );
+    println!(
+        "levels: {}, 0 differences",
+        levels::compare(&mut Random::new(seed ^ 0x1E7E), rows)?
     );
     println!(
         "refusals: {}, 0 differences",
