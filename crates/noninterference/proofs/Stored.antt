@@ -1,8 +1,8 @@
 -- However the other channels are re-voiced, a stored sheet has the same columns of a set of channels. Assumes nothing.
-use Prim.Native.Nat.{ℕ, zero, suc, _+_, _*_, _-_, _/_, _%_, _≤_, _<_}
-use mathlib.Core.Path.{_≡_, refl, sym, ap, _∙_, subst, subst⁻¹}
+use Prim.Native.Nat.{ℕ, _+_, _*_, _-_, _/_, _%_, _≤_, _<_}
+use mathlib.Core.Path.{_≡_, refl, sym, ap, _∙_, subst⁻¹}
 use mathlib.Core.Bool.{Bool, true, false, _&&_, _||_}
-use mathlib.Core.List.{List, [], _∷_, _++_, map}
+use mathlib.Core.List.{List, [], _++_, map, append-nil}
 use native.Mathlib.Omega.{arith}
 use borrow.Author.Tests.{ltb-true, leb-true}
 use lib.Dec.{T, ltb, leb}
@@ -13,6 +13,7 @@ use Rattle.section.specs.declared.state.Opened.{Opened}
 use Rattle.section.specs.Tables.{Tune}
 use Rattle.section.specs.Section.{Answer, joined}
 use Rattle.section.specs.Made.{Made}
+use Rattle.section.proofs.Sizes.{byte-in}
 use Rattle.columns.specs.Columns.{byteOf, columnOf, stored}
 use Rattle.columns.specs.Answers.{storeOutput}
 use Rattle.columns.proofs.Alike.{columns-alike}
@@ -26,19 +27,8 @@ use Rattle.noninterference.proofs.Sheets.{record-length, entry-alike, c
 use Rattle.noninterference.proofs.Theorem.{channels-kept, made-kept, opened-lent}
 
 -- byte c of record r, of records of 536 bytes joined
-byte-in : (rs : List (List ℕ)) → ((i : ℕ) → i < length rs → length (getD rs i []) ≡ 536) → (c r : ℕ) → c < 536 → r < length rs → byteOf (joined rs) c r ≡ getD (getD rs r []) c 0
-unfolding joined
-byte-in [] h c r i l = absurd (omega arith)
-byte-in (x ∷ rs) h c zero i l =
-    let e : zero * 536 + c ≡ c = omega arith in
-    let n = h zero (omega arith) in
-    ap (λ (q : ℕ). getD (x ++ joined rs) q 0) e ∙ List·getD-append x (joined rs) 0 c (omega (arith, n, i))
-byte-in (x ∷ rs) h c (suc r) i l =
-    let n = h zero (omega arith) in
-    let e : suc r * 536 + c ≡ length x + (r * 536 + c) = omega (arith, n) in
-    ap (λ (q : ℕ). getD (x ++ joined rs) q 0) e
-    ∙ getD-append-add x (joined rs) (r * 536 + c) 0
-    ∙ byte-in rs (λ k b. h (suc k) (omega arith)) c r i (omega arith)
+sheet-byte : (rs : List (List ℕ)) → ((i : ℕ) → i < length rs → length (getD rs i []) ≡ 536) → (c r : ℕ) → c < 536 → r < length rs → byteOf (joined rs) c r ≡ getD (getD rs r []) c 0
+sheet-byte rs h c r i l = ap (λ (bytes : List ℕ). byteOf bytes c r) (sym (append-nil (joined rs))) ∙ byte-in rs [] h c r i l
 
 -- a byte of a record, in the row head without its strike mask and in a channel
 module _ (s : List ℕ) (n : length s ≡ 536) where
@@ -103,9 +93,9 @@ module _ (chosen : ℕ → Bool) (A B : Tune) (cs ds : List Call) (xs ys : List 
 
   byte-same : (c : ℕ) → c < 536 → T (keptByte chosen c) → (r : ℕ) → r < length (sheetOf xs) → byteOf (sheetBytes xs) c r ≡ byteOf (sheetBytes ys) c r
   byte-same c h kept r l =
-      byte-in (sheetOf xs) (record-length A cs xs lA a) c r h l
+      sheet-byte (sheetOf xs) (record-length A cs xs lA a) c r h l
       ∙ record-same c h kept r l
-      ∙ sym (byte-in (sheetOf ys) (record-length B ds ys lB b) c r h (omega (arith, l, count)))
+      ∙ sym (sheet-byte (sheetOf ys) (record-length B ds ys lB b) c r h (omega (arith, l, count)))
 
   sheets-alike : SheetsAlike chosen xs ys
   unfolding storeOutput

@@ -7,7 +7,7 @@ use mathlib.Core.List.{List, [], _∷_, map}
 use native.Mathlib.Omega.{arith}
 use lib.IntN.{pos}
 use lib.Ieee.{isNan}
-use lib.ListN.{length, getD, replicate}
+use lib.ListN.{length, getD, replicate, length-map}
 use Rattle.laws.specs.Entries.{mapFrom}
 use Rattle.tune.specs.Sizes.{rule9}
 use Rattle.tune.specs.Opening.{blankChannel, UntransposedOpening}
@@ -58,17 +58,13 @@ opened-channel : (o : ChannelOpening) → ShapedChannel (openedChannel o)
 unfolding openedChannel
 opened-channel o = record { memory = length-zeros 32; bytes = zero-bytes 32 }
 
-opened-length : (os : List ChannelOpening) → length (map openedChannel os) ≡ length os
-opened-length [] = refl
-opened-length (o ∷ os) = ap suc (opened-length os)
-
 -- a fresh state has 32 channels, memories and S infos of 32 bytes
 pub fresh-shaped : (o : Opening) → length (o .channels) ≡ 32 → o .speed ≤ 255 → Shaped (freshState o)
 unfolding freshState firstPath
 fresh-shaped o h f =
     record {
-      channels = opened-length (o .channels) ∙ h;
-      channel = λ i d b. each-opened ShapedChannel d blankChannel (o .channels) (λ k l. opened-channel _) i (omega (arith, h, opened-length (o .channels)));
+      channels = length-map (o .channels) openedChannel ∙ h;
+      channel = λ i d b. each-opened ShapedChannel d blankChannel (o .channels) (λ k l. opened-channel _) i (omega (arith, h, length-map (o .channels) openedChannel));
       infos = length-zeros 32;
       order = omega arith;
       speed = f;

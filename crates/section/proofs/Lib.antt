@@ -1,4 +1,5 @@
 pub mod Accepted
+pub mod LevelRecords
 pub mod Levelled
 pub mod Answers
 pub mod Counts

@@ -1,9 +1,10 @@
--- How many bytes a record has, and how many channels a state. Assumes nothing.
-use Prim.Native.Nat.{ℕ, zero, suc, _*_, _/_, _^_, _<_}
+-- How many bytes a record has, and how many channels a state; bytes of joined records. Assumes nothing.
+use Prim.Native.Nat.{ℕ, zero, suc, _+_, _*_, _/_, _^_, _<_}
 use mathlib.Core.Path.{_≡_, refl, sym, ap, _∙_, subst}
-use mathlib.Core.List.{List, [], _∷_}
+use mathlib.Core.List.{List, [], _∷_, _++_, append-assoc}
 use native.Mathlib.Omega.{arith}
-use lib.ListN.{length, getD, length-append}
+use lib.ListN.{length, getD, length-append, List·getD-append}
+use lib.Seq.{getD-append-add}
 use Rattle.laws.proofs.Picks.{choice}
 use Rattle.laws.proofs.MaskBits.{mask-below}
 use Rattle.tune.specs.Cells.{rowCells}
@@ -17,8 +18,9 @@ use Rattle.channel.proofs.Own as own
 use Rattle.section.specs.declared.state.State.{State}
 use Rattle.section.specs.Tables.{Tables}
 use Rattle.tune.specs.Numbers.{bytesOf}
-use Rattle.section.specs.Records.{rowHead, channelBytes, channelsBytes, recordBytes}
+use Rattle.section.specs.Records.{recordSize, rowHead, channelBytes, channelsBytes, recordBytes}
 use Rattle.section.specs.Machines.{Voices, rowPlayed, recordOf, voicesAfter, recordsOf, voicesBehind}
+use Rattle.section.specs.Section.{joined}
 use Rattle.section.specs.Walk.{voicesOf, stateWith, Walked, walk}
 use Rattle.section.proofs.Walks.{machines, walk-machines}
 
@@ -46,6 +48,24 @@ channels-length (c ∷ cs) = rw (length-append, channel-length c, channels-lengt
 pub record-length : (e : Entered) (g strikes : ℕ) (cs : List Channel) → length cs ≡ 32 → length (recordBytes e g strikes cs) ≡ 536
 unfolding recordBytes
 record-length e g strikes cs h = rw (length-append, head-length e g strikes, channels-length cs, h)
+
+-- byte c of record r, of records of 536 bytes joined, whatever stands behind them
+pub byte-in : (rs : List (List ℕ)) (rest : List ℕ) → ((i : ℕ) → i < length rs → length (getD rs i []) ≡ 536) → (c r : ℕ) → c < 536 → r < length rs
+    → getD (joined rs ++ rest) (r * recordSize + c) 0 ≡ getD (getD rs r []) c 0
+unfolding joined
+byte-in [] rest h c r i l = absurd (omega arith)
+byte-in (x ∷ rs) rest h c zero i l =
+    let e : zero * recordSize + c ≡ c = omega arith in
+    let n = h zero (omega arith) in
+    ap (λ (q : ℕ). getD (x ++ joined rs ++ rest) q 0) e
+    ∙ ap (λ (l : List ℕ). getD l c 0) (append-assoc x (joined rs) rest) ∙ List·getD-append x (joined rs ++ rest) 0 c (omega (arith, n, i))
+byte-in (x ∷ rs) rest h c (suc r) i l =
+    let n = h zero (omega arith) in
+    let e : suc r * recordSize + c ≡ length x + (r * recordSize + c) = omega (arith, n) in
+    ap (λ (q : ℕ). getD (x ++ joined rs ++ rest) q 0) e
+    ∙ ap (λ (l : List ℕ). getD l (length x + (r * recordSize + c)) 0) (append-assoc x (joined rs) rest)
+    ∙ getD-append-add x (joined rs ++ rest) (r * recordSize + c) 0
+    ∙ byte-in rs rest (λ k b. h (suc k) (omega arith)) c r i (omega arith)
 
 module _ (t : Tables) (w : Switches) where
   -- a row keeps the number of channels

@@ -165,8 +165,8 @@ fn walk(
     given(rows, path, channels, global, s.switches)
 }
 
-// Section: up to n rows, each a record of 536 bytes; or 9, 11, 17 or 12 and the state that it was given. `typed` has what the
-// theorems on a call presuppose.
+// Section: up to n rows, each a record of 536 bytes; or 9, 11, 17 or 12 and the state that it was given. `typed` has what
+// the theorems on a call presuppose.
 pub fn section(
     orders: &[u8],
     cells: &[u8],

@@ -34,7 +34,7 @@ same-length-2 c = search needs
 
 -- calls that were made, demand 3 of them, and their levels
 upheld : (u : Tune) (o : Opened) (ms : List Made) → MadeOn u o ms → MadeOn u o ms × HoweverRevoiced u ms × LevelsKept ms
-upheld u o ms h = (h, made-kept u o ms h, levels-kept (u .tables) (u .opening) o ms (h .answer) (h .accepted) (h .calls) .1)
+upheld u o ms h = (h, made-kept u o ms h, levels-kept (u .tables) (u .opening) o ms (h .answer) (h .typed .1) (h .accepted) (h .calls) .1)
 
 returns-2 : tie.Need-returns-2
 unfolding Promised
