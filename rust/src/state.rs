@@ -108,8 +108,8 @@ impl State {
         std::array::from_fn(|k| self.0[64 + 80 * k + 45] as i8)
     }
 
-    /// The first channel's level that is above its limit, of a volume before that of a pan. No section goes on from such a
-    /// state (rule 17), and none gives one back.
+    /// The first level above its limit, by channel, and of a channel the volume before the pan. No section goes on from a state
+    /// that has one (rule 17), and none gives such a state back.
     ///
     /// ```
     /// use lomqashe::{LevelAbove, State, Tune};

@@ -1,4 +1,5 @@
-// Demand 3, and the levels of 2026-08, of calls that this makes: both can be drawn only from what `open` and `section` promise.
+// Demand 3, and the levels of 2026-08, of calls that this makes: both can be drawn only from what `open` and `section`
+// promise.
 ghost use mathlib.Core.Path.{_≡_};
 ghost use mathlib.Core.Logic.{_≢_};
 ghost use mathlib.Core.List.{[], _∷_};
