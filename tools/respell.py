@@ -10,6 +10,8 @@ import os
 import re
 import sys
 
+# names whose plain new spelling is a parameter's where a clause cites them
+TAKEN = {"pansAt": "pans_place"}
 # functions of the library whose name a dash joins to another, as in `length-drop`
 LIBRARY = ("length", "take", "drop", "map", "append", "replicate", "get_or")
 TOKEN = re.compile(r"[A-Za-z_\u00ab][A-Za-z0-9_'\u00bb-]*")
@@ -37,10 +39,14 @@ def declared(root):
         if not own(path, root):
             continue
         with open(path) as f:
-            in_record = in_module = False
+            in_record, modules = False, []
             for line in f:
-                in_module = line.startswith("module ") or in_module and (line.startswith("  ") or not line.strip())
-                m = HEAD.match(line[2:] if in_module and line.startswith("  ") else line)
+                indent = len(line) - len(line.lstrip(" "))
+                if line.strip():
+                    modules = [i for i in modules if i < indent]
+                if line.lstrip(" ").startswith("module "):
+                    modules.append(indent)
+                m = HEAD.match(line[indent:]) if indent == 2 * len(modules) else None
                 if m:
                     in_record = m.group(1) == "record "
                     names.add(m.group(2))
@@ -78,6 +84,7 @@ def new_names(root):
             new = ps[0] + "-" + "_".join(ps[1:])
         if name[0].isupper():
             new = name
+        new = TAKEN.get(name, new)
         if new != name:
             table[name] = new
     # a lemma that would have its function's name gets `_lem`
@@ -118,6 +125,7 @@ def look(root, table, kept):
 
 def turn(text, table, fields, rust):
     """The text with the new names. In Rust a dash is a minus; behind a value's dot only a field is ours."""
+    aliases = set(re.findall(r"^use Rattle\.[\w.+-]+ as ([\w-]+)$", text, re.M))
 
     def one(m):
         word = m.group(0)
@@ -125,7 +133,7 @@ def turn(text, table, fields, rust):
         if bare not in table or ("-" in bare and rust):
             return word
         before = re.search(r"([^\s.(){}]+)\.$", text[max(0, m.start() - 80) : m.start()])
-        if text[m.start() - 1 : m.start()] == "." and bare not in fields and not (before and before.group(1)[0].isupper()):
+        if text[m.start() - 1 : m.start()] == "." and bare not in fields and not (before and (before.group(1)[0].isupper() or before.group(1) in aliases)):
             return word
         return table[bare]
 

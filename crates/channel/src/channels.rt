@@ -10,7 +10,7 @@ use pitch::periods::period_table;
 use tune::cells::{Cell, cell_of};
 
 // The channels after a row's start, the strike mask, and the global volume that the leave sets.
-#[derive(Drop)]
+#[derive(Clone, Copy)]
 pub struct Rowed {
     pub channels: [Channel; 32],
     pub strikes: u32,

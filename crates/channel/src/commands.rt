@@ -34,8 +34,8 @@ fn slide_finely(c: Channel, up: bool, amiga: bool) -> Channel
 
 // S2x.
 fn tune_finely(c: Channel, p: u8, table: &[u32], amiga: bool) -> Channel
-    requires fact_1 { p < 16 }
-    requires fact_2 { table.now ≡ kept_periods }
+    requires nibble { p < 16 }
+    requires kept { table.now ≡ kept_periods }
     ensures { result ≡ finetuned c p amiga }
 {
     let mut d = c;
@@ -82,8 +82,8 @@ fn shape(o: Oscillator, p: u8) -> Oscillator
 
 // Sxp.
 fn extended(c: Channel, x: u8, p: u8, table: &[u32], amiga: bool) -> Channel
-    requires fact_1 { p < 16 }
-    requires fact_2 { table.now ≡ kept_periods }
+    requires nibble { p < 16 }
+    requires kept { table.now ≡ kept_periods }
     ensures { result ≡ extended_by c x p amiga }
 {
     let mut d = c;

@@ -1,4 +1,6 @@
 // Channels: what the pipes do at a row, the other half of the Rust's `enter_row`.
+#![tactic(auto)]
+
 pub mod channels;
 pub mod commands;
 pub mod levels;

@@ -6,7 +6,7 @@ ghost use Rattle.channel.specs.Set.{with_row, with_delay};
 use tune::opening::{ChannelOpening, Fixed};
 
 // The waveform of a vibrato or a tremolo.
-#[derive(Drop)]
+#[derive(Clone, Copy)]
 pub enum Waveform {
     Sine,
     RampDown,
@@ -15,7 +15,7 @@ pub enum Waveform {
 }
 
 // A vibrato or a tremolo: where it stands, its waveform, and whether a struck note leaves it there.
-#[derive(Drop)]
+#[derive(Clone, Copy)]
 pub struct Oscillator {
     pub waveform: Waveform,
     pub pos: u8,
@@ -23,14 +23,14 @@ pub struct Oscillator {
 }
 
 // The counters of a tremor, which no row's start changes.
-#[derive(Drop)]
+#[derive(Clone, Copy)]
 pub struct Tremor {
     pub on_counter: u8,
     pub off_counter: u8,
 }
 
 // A cell that SDx puts off to a later tick.
-#[derive(Drop)]
+#[derive(Clone, Copy)]
 pub struct PendingTrigger {
     pub fire_tick: u8,
     pub note: u8,
@@ -38,7 +38,7 @@ pub struct PendingTrigger {
     pub volume: u8,
 }
 
-#[derive(Drop)]
+#[derive(Clone, Copy)]
 pub enum TriggerOption {
     None,
     Some(PendingTrigger),
@@ -47,7 +47,7 @@ pub enum TriggerOption {
 // The Rust's Channel, with what goes together in structs of its own. The S slot (19) of its memory is the path's, slots 27 to
 // 31 are spare. The AdLib voice is a mark: 0 none, 1 keyed, 2 released. Fields are copied one by one or together with their
 // neighbours: this order takes less time a row than the Rust's.
-#[derive(Drop)]
+#[derive(Clone, Copy)]
 pub struct Channel {
     pub frequency: f32,
     pub target_frequency: f32,
@@ -74,14 +74,14 @@ pub struct Channel {
 }
 
 // A channel after a cell was played, and whether a note was struck.
-#[derive(Drop)]
+#[derive(Clone, Copy)]
 pub struct Played {
     pub channel: Channel,
     pub struck: bool,
 }
 
 // The tune's two switches.
-#[derive(Drop)]
+#[derive(Clone, Copy)]
 pub struct Switches {
     pub amiga_limits: bool,
     pub fast_slides: bool,

@@ -143,19 +143,19 @@ module _ (orders cells : List ℕ) where
   patterns_start = record { all = refl; few = omega arith; kept = some_none _ }
 
   module _ (patterns pattern : ℕ) (I : Patterns patterns pattern) where
-    pub patterns-next : pattern < patterns → pattern_breaks orders cells pattern ≡ false → Patterns patterns (pattern + 1)
-    patterns-next l e = record { all = I.all; few = omega arith; kept = some_next (pattern_breaks orders cells) pattern I.kept e }
+    pub patterns_next : pattern < patterns → pattern_breaks orders cells pattern ≡ false → Patterns patterns (pattern + 1)
+    patterns_next l e = record { all = I.all; few = omega arith; kept = some_next (pattern_breaks orders cells) pattern I.kept e }
 
-    pub patterns-break : pattern < patterns → pattern_breaks orders cells pattern ≡ true → false ≡ closed orders cells
+    pub patterns_break : pattern < patterns → pattern_breaks orders cells pattern ≡ true → false ≡ closed orders cells
     unfolding breaks
-    patterns-break l e = ap not (sym (some_found (pattern_breaks orders cells) (pattern_count cells) pattern (omega (arith, I.all)) e)) ∙ worked_out orders cells
+    patterns_break l e = ap not (sym (some_found (pattern_breaks orders cells) (pattern_count cells) pattern (omega (arith, I.all)) e)) ∙ worked_out orders cells
 
-    pub patterns-done : patterns ≤ pattern → true ≡ closed orders cells
+    pub patterns_done : patterns ≤ pattern → true ≡ closed orders cells
     unfolding breaks
-    patterns-done l =
+    patterns_done l =
         let z : pattern ≡ pattern_count cells = omega (arith, I.few, I.all) in
         ap not (sym I.kept ∙ ap (λ (n : ℕ). some n (pattern_breaks orders cells)) z) ∙ worked_out orders cells
 
     -- what a pattern's cells ask
-    pub patterns-within : pattern < patterns → length cells ≡ pattern_count cells * 10240 → pattern * 10240 + 10240 ≤ length cells
-    patterns-within l e = omega (arith, I.all, e)
+    pub patterns_within : pattern < patterns → length cells ≡ pattern_count cells * 10240 → pattern * 10240 + 10240 ≤ length cells
+    patterns_within l e = omega (arith, I.all, e)

@@ -50,24 +50,24 @@ module _ (orders cells : List ℕ) where
       lt-leb c.info place (omega (arith, ltb-false c.info (after_of p) (false_second _ _ e b), after_most orders p (length orders) place l n)))
 
   module _ (e : breaks orders cells ≡ false) where
-    pattern-keeps : (p : ℕ) → p < pattern_count cells → (some 64 (λ r. row_breaks (after_of p) (row_cells cells p r) 32) ≡ false) × (ltb 1 (how_many 64 (loops cells p)) ≡ false)
+    pattern_keeps : (p : ℕ) → p < pattern_count cells → (some 64 (λ r. row_breaks (after_of p) (row_cells cells p r) 32) ≡ false) × (ltb 1 (how_many 64 (loops cells p)) ≡ false)
     unfolding breaks pattern_breaks
-    pattern-keeps p h = or_false _ _ (some_absent (pattern_breaks orders cells) (pattern_count cells) p h e)
+    pattern_keeps p h = or_false _ _ (some_absent (pattern_breaks orders cells) (pattern_count cells) p h e)
 
-    cell-keeps : (p r i : ℕ) → p < pattern_count cells → r < 64 → i < 32
+    cell_keeps : (p r i : ℕ) → p < pattern_count cells → r < 64 → i < 32
         → let c = cell_in cells p r i in (recalls c ≡ false) × ((eqb c.command 2 && ltb c.info (after_of p)) ≡ false)
     unfolding row_breaks cell_breaks
-    cell-keeps p r i h l m =
-        or_false _ _ (some_absent (λ i. cell_breaks (after_of p) (cell_in cells p r i)) 32 i m (some_absent (λ r. row_breaks (after_of p) (row_cells cells p r) 32) 64 r l (pattern-keeps p h).0))
+    cell_keeps p r i h l m =
+        or_false _ _ (some_absent (λ i. cell_breaks (after_of p) (cell_in cells p r i)) 32 i m (some_absent (λ r. row_breaks (after_of p) (row_cells cells p r) 32) 64 r l (pattern_keeps p h).0))
 
-    has-none : has ≡ false
+    has_none : has ≡ false
     unfolding has_recall has_return has_two_loops
-    has-none =
-        let recall : has_recall cells ≡ false = some_nowhere _ (pattern_count cells) (λ p h. passes_nowhere cells p recalls (λ r i l m. (cell-keeps p r i h l m).0)) in
+    has_none =
+        let recall : has_recall cells ≡ false = some_nowhere _ (pattern_count cells) (λ p h. passes_nowhere cells p recalls (λ r i l m. (cell_keeps p r i h l m).0)) in
         let return : has_return orders cells ≡ false =
         some_nowhere _ (pattern_count cells) (λ p h. some_nowhere _ (length orders) (λ place a. and_false _ _ (λ n.
-        passes_nowhere cells p (goes_back place) (λ r i l m. beyond place p (cell_in cells p r i) a (eqb-true _ _ n) (cell-keeps p r i h l m).1)))) in
-        let two : has_two_loops cells ≡ false = some_nowhere _ (pattern_count cells) (λ p h. (pattern-keeps p h).1) in
+        passes_nowhere cells p (goes_back place) (λ r i l m. beyond place p (cell_in cells p r i) a (eqb-true _ _ n) (cell_keeps p r i h l m).1)))) in
+        let two : has_two_loops cells ≡ false = some_nowhere _ (pattern_count cells) (λ p h. (pattern_keeps p h).1) in
         rw (recall, return, two)
 
   module _ (e : has ≡ false) where
@@ -83,9 +83,9 @@ module _ (orders cells : List ℕ) where
         leb-false c.info place (false_second _ _ (none_passes cells p (goes_back place) (return_absent orders cells (clauses orders cells e).1 place p a n h) r i l m) b)))) in
         rw (recall, back)
 
-    breaks-none : breaks orders cells ≡ false
+    breaks_none : breaks orders cells ≡ false
     unfolding breaks pattern_breaks row_breaks
-    breaks-none =
+    breaks_none =
         some_nowhere _ (pattern_count cells) (λ p h.
         let rows : some 64 (λ r. row_breaks (after_of p) (row_cells cells p r) 32) ≡ false =
         some_nowhere _ 64 (λ r l. some_nowhere (λ i. cell_breaks (after_of p) (cell_in cells p r i)) 32 (λ i m. kept p r i h l m)) in
@@ -93,4 +93,4 @@ module _ (orders cells : List ℕ) where
 
   pub worked_out : not (breaks orders cells) ≡ closed orders cells
   unfolding closed
-  worked_out = ap not (same_false (breaks orders cells) has has-none breaks-none)
+  worked_out = ap not (same_false (breaks orders cells) has has_none breaks_none)

@@ -13,7 +13,7 @@ use tune::refusals::refusal;
 use tune::sizes::sizes_rule;
 
 // Whether a tune is closed, or the number of the rule that refuses its tables.
-#[derive(Drop)]
+#[derive(Clone, Copy)]
 pub enum ClosedAnswer {
     Yes,
     No,

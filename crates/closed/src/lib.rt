@@ -1,2 +1,4 @@
+#![tactic(auto)]
+
 pub mod answer;
 pub mod working;

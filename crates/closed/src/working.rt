@@ -25,7 +25,7 @@ fn after_last(orders: &[u8], pattern: u8) -> usize
 }
 
 // What the first channels of a row have: whether a cell breaks, and the p of the last SB, 0 where there is none.
-#[derive(Drop)]
+#[derive(Clone, Copy)]
 struct RowRead {
     breaks: bool,
     p: u8,

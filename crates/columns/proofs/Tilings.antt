@@ -40,8 +40,8 @@ module _ (m c s : ℕ) (first : 1 ≤ s) (h : c + 8 ≤ 536) (i : s + 16 ≤ m) 
         ∙ differed d n k b a
         ∙ sym (ap (made_at true records m) (in_column m c s k n) ∙ stored_there records m (c + k) (s + n) (omega arith))
 
-    pub tile-stored : RowsDiffered 16 records ((s - 1) * 536 + c) t → Moved 128 columns_from t u → RowsPut 8 16 u 0 16 before after (c * m + s) m → TileMade true records m before after c s
-    tile-stored d v p =
+    pub tile_stored : RowsDiffered 16 records ((s - 1) * 536 + c) t → Moved 128 columns_from t u → RowsPut 8 16 u 0 16 before after (c * m + s) m → TileMade true records m before after c s
+    tile_stored d v p =
         let w = p (made_at true records m) (turned d v) in
         (w.0, λ n k a b. subst (Right (made_at true records m) after) (in_column m c s k n) (w.1 k n b a))
 
@@ -93,9 +93,9 @@ module _ (m c s : ℕ) (first : 1 ≤ s) (h : c + 8 ≤ 536) (i : s + 16 ≤ m) 
         ∙ sym (sums_behind (column_of columns m (c + k)) (s + n) (omega arith))
         ∙ ap (λ (r : ℕ). restored_byte columns m r (c + k)) y
 
-    pub tile-restored : RowsPut 8 16 columns (c * m + s) m t₀ t₁ 0 16 → Moved 128 rows_from t₁ u → Strip (place_of false m) (made_at false columns m) out c s → RowPut 8 out ((s - 1) * 536 + c) t₂ t₃ 0 → AddedUp 128 u t₃ t₄
+    pub tile_restored : RowsPut 8 16 columns (c * m + s) m t₀ t₁ 0 16 → Moved 128 rows_from t₁ u → Strip (place_of false m) (made_at false columns m) out c s → RowPut 8 out ((s - 1) * 536 + c) t₂ t₃ 0 → AddedUp 128 u t₃ t₄
         → RowsPut 16 8 t₄ 8 8 out after (s * 536 + c) 536 → TileMade false columns m out after c s
-    tile-restored p v right q a r =
+    tile_restored p v right q a r =
         let w = r (made_at false columns m) there in
         (w.0, λ n k x y. subst (Right (made_at false columns m) after) (place n k) (w.1 n k x y))
       where

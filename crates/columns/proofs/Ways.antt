@@ -1,5 +1,5 @@
 -- The two ways of the loops: what belongs at the place of a byte, and when the whole output is made. Assumes nothing.
-use Rattle.std.proofs.Common.{◌≡◌, ℕ, ◌+◌, ◌-◌, ◌*◌, ◌<◌, Bool, true, false, T, List, length, sym, refl, ◌∙◌, subst, arith}
+use Rattle.std.proofs.Common.{◌≡◌, ℕ, ◌+◌, ◌*◌, ◌<◌, Bool, true, false, T, List, length, sym, refl, ◌∙◌, subst, arith}
 use Rattle.columns.specs.Columns.{difference, sum, byte_of, column_of, stored_byte, restored_byte, stored, restored}
 use Rattle.columns.specs.Places.{made, made_at, place_of, prior, Column, Rows}
 use Rattle.columns.proofs.Differences.{differences_next, sums_next, prior_same}

@@ -1,4 +1,6 @@
 // Records in column order, each column's bytes as differences, and back (02, 2026-07).
+#![tactic(auto)]
+
 pub mod bytes;
 pub mod converting;
 pub mod rule;

@@ -50,12 +50,12 @@ module _ {X : Type 0} (f : X → List ℕ) where
           same = e ∙ part_more out₀ (in_turn f (take i xs)) x start (i * size) size w.room w.bytes w.same ∙ rw (add_assoc start (i * size) size, s, turn_next xs i d h);
         }
 
-    pub each-written : (i : ℕ) (out : List ℕ) → Written start size xs out₀ out i → length xs ≤ i → out ≡ take start out₀ ++ (in_turn f xs ++ drop (start + i * size) out₀)
-    each-written i out w h = w.same ∙ rw (take_all i xs h)
+    pub each_written : (i : ℕ) (out : List ℕ) → Written start size xs out₀ out i → length xs ≤ i → out ≡ take start out₀ ++ (in_turn f xs ++ drop (start + i * size) out₀)
+    each_written i out w h = w.same ∙ rw (take_all i xs h)
 
     -- up to the end
     pub all_written : (i : ℕ) (out : List ℕ) → Written start size xs out₀ out i → length xs ≤ i → length out₀ ≤ start + i * size → out ≡ take start out₀ ++ in_turn f xs
-    all_written i out w h n = each-written i out w h ∙ rw (drop_of_length-le out₀ n, append-nil)
+    all_written i out w h n = each_written i out w h ∙ rw (drop_of_length-le out₀ n, append-nil)
 
   -- what stands behind the first i entries begins with entry i
   pub turn_drop : (size : ℕ) (xs : List X) (i : ℕ) (d : X) → ((k : ℕ) → k < length xs → length (f (get_or xs k d)) ≡ size) → i < length xs → drop (i * size) (in_turn f xs) ≡ f (get_or xs i d) ++ in_turn f (drop (suc i) xs)

@@ -167,30 +167,30 @@ module _ (f : Opening → ℕ) (opening state : List ℕ) where
   state_wrong h k = wrong_bytes (no_state h k)
 
   module _ (h : length opening ≡ 176) (k : length state ≡ 2624) (o : Opening) (g : Opened) (eo : o ≡ opening_at opening) (eg : g ≡ opened_by (f o) o) where
-    by-bytes-opened : g ≡ opened_by refusal (opening_at opening)
-    by-bytes-opened = eg ∙ ap (λ (o : Opening). opened_by (f o) o) eo ∙ ap (λ (r : ℕ). opened_by r (opening_at opening)) (sym (by_rules h k))
+    by_bytes_opened : g ≡ opened_by refusal (opening_at opening)
+    by_bytes_opened = eg ∙ ap (λ (o : Opening). opened_by (f o) o) eo ∙ ap (λ (r : ℕ). opened_by r (opening_at opening)) (sym (by_rules h k))
 
     refusal_is : g.refusal ≡ refusal
-    refusal_is = ap (λ (g : Opened). g.refusal) by-bytes-opened
+    refusal_is = ap (λ (g : Opened). g.refusal) by_bytes_opened
 
     -- the bytes by an answer are those by its rule
-    bytes-by : (rule : ℕ) (o : Opening) → pick (eqb rule 0) (state_bytes (opened_by rule o).state) state ≡ pick (eqb rule 0) (state_bytes (fresh_state o)) state
-    bytes-by rule o = by (eqb rule 0)
+    bytes_by : (rule : ℕ) (o : Opening) → pick (eqb rule 0) (state_bytes (opened_by rule o).state) state ≡ pick (eqb rule 0) (state_bytes (fresh_state o)) state
+    bytes_by rule o = by (eqb rule 0)
       where
         by : (b : Bool) → pick b (state_bytes (fresh_state (pick b o blank_opening))) state ≡ pick b (state_bytes (fresh_state o)) state
         by true = refl
         by false = refl
 
     fresh : g.refusal ≡ 0 → g.state ≡ fresh_state (opening_at opening)
-    fresh z = ap (λ (g : Opened). g.state) by-bytes-opened ∙ ap fresh_state (pick_equal refusal 0 (opening_at opening) blank_opening (sym refusal_is ∙ z))
+    fresh z = ap (λ (g : Opened). g.state) by_bytes_opened ∙ ap fresh_state (pick_equal refusal 0 (opening_at opening) blank_opening (sym refusal_is ∙ z))
 
-    pub opened-bytes : {r : ℕ} {b : List ℕ} → r ≡ answer_of g.refusal 0 → b ≡ pick (eqb g.refusal 0) (state_bytes g.state) state
+    pub opened_bytes : {r : ℕ} {b : List ℕ} → r ≡ answer_of g.refusal 0 → b ≡ pick (eqb g.refusal 0) (state_bytes g.state) state
         → (g.refusal ≡ 0 → state_of b ≡ g.state) → OpenedBytes r b
     unfolding state_opened
-    opened-bytes er eb ek =
+    opened_bytes er eb ek =
         record {
           answer = er ∙ ap (λ (r : ℕ). answer_of r 0) refusal_is;
-          written = eb ∙ ap (λ (g : Opened). pick (eqb g.refusal 0) (state_bytes g.state) state) by-bytes-opened ∙ bytes-by refusal (opening_at opening);
+          written = eb ∙ ap (λ (g : Opened). pick (eqb g.refusal 0) (state_bytes g.state) state) by_bytes_opened ∙ bytes_by refusal (opening_at opening);
           kept = λ z. ek (refusal_is ∙ z) ∙ fresh (refusal_is ∙ z);
         }
 
@@ -242,28 +242,28 @@ module _ (t : Tables) (state : List ℕ) (n : ℕ) (output : List ℕ) where
     unfolding state_after
     state_is = ap (λ (g : Sectioned). pick (eqb g.refusal 0) (state_bytes g.state) state) by_bytes ∙ sym (pick_equal (length state) 2624 _ _ h)
 
-    records-are : out ≡ records_after t state n output
+    records_are : out ≡ records_after t state n output
     unfolding records_after
-    records-are = eo ∙ ap (λ (s : State). output_after output (section_of t s n (length output))) es ∙ sym (pick_equal (length state) 2624 _ _ h)
+    records_are = eo ∙ ap (λ (s : State). output_after output (section_of t s n (length output))) es ∙ sym (pick_equal (length state) 2624 _ _ h)
 
-    pub section-refused : (g.refusal ≡ 0 → ⊥) → (answer_of g.refusal 0 ≡ section_answer t state n output) × (state ≡ state_after t state n output) × (out ≡ records_after t state n output)
-    section-refused r =
+    pub section_refused : (g.refusal ≡ 0 → ⊥) → (answer_of g.refusal 0 ≡ section_answer t state n output) × (state ≡ state_after t state n output) × (out ≡ records_after t state n output)
+    section_refused r =
         let z : 0 ≡ rows_and_ended g = nothing (section_of t s n (length output)) (λ e. r (ap (λ (g : Sectioned). g.refusal) eg ∙ e)) ∙ sym (ap rows_and_ended eg) in
-        (ap (λ (v : ℕ). answer_of g.refusal v) z ∙ answer_is, sym (pick_unequal g.refusal 0 (state_bytes g.state) state r) ∙ state_is, records-are)
+        (ap (λ (v : ℕ). answer_of g.refusal v) z ∙ answer_is, sym (pick_unequal g.refusal 0 (state_bytes g.state) state r) ∙ state_is, records_are)
 
-    pub section-given : g.refusal ≡ 0 → (rows_and_ended g ≡ section_answer t state n output) × (state_bytes g.state ≡ state_after t state n output) × (out ≡ records_after t state n output)
-    section-given z =
-        (sym (zero-add (rows_and_ended g)) ∙ ap (λ (r : ℕ). answer_of r (rows_and_ended g)) (sym z) ∙ answer_is, sym (pick_equal g.refusal 0 (state_bytes g.state) state z) ∙ state_is, records-are)
+    pub section_given : g.refusal ≡ 0 → (rows_and_ended g ≡ section_answer t state n output) × (state_bytes g.state ≡ state_after t state n output) × (out ≡ records_after t state n output)
+    section_given z =
+        (sym (zero-add (rows_and_ended g)) ∙ ap (λ (r : ℕ). answer_of r (rows_and_ended g)) (sym z) ∙ answer_is, sym (pick_equal g.refusal 0 (state_bytes g.state) state z) ∙ state_is, records_are)
 
     -- the bytes say the state that Section gives
-    pub refused-kept : (g.refusal ≡ 0 → ⊥) → state_of state ≡ (section_by t state n output).state
-    refused-kept r =
+    pub refused_kept : (g.refusal ≡ 0 → ⊥) → state_of state ≡ (section_by t state n output).state
+    refused_kept r =
         sym es
         ∙ sym (refused_state t s n (length output) (λ e. r (ap (λ (g : Sectioned). g.refusal) eg ∙ e)))
         ∙ ap (λ (g : Sectioned). g.state) (sym eg ∙ by_bytes)
 
-    pub given-kept : (b : List ℕ) → b ≡ state_bytes g.state → state_of (state_bytes g.state) ≡ g.state → state_of b ≡ (section_by t state n output).state
-    given-kept b e k = ap state_of e ∙ k ∙ ap (λ (g : Sectioned). g.state) by_bytes
+    pub given_kept : (b : List ℕ) → b ≡ state_bytes g.state → state_of (state_bytes g.state) ≡ g.state → state_of b ≡ (section_by t state n output).state
+    given_kept b e k = ap state_of e ∙ k ∙ ap (λ (g : Sectioned). g.state) by_bytes
 
 -- the punch head's step
 module _ (registers : List ℕ) (command : ℕ) (row : List ℕ) where

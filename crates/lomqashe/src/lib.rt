@@ -1,6 +1,8 @@
 // The calls for a program in C or Rust, over numbers and bytes alone: no caller has anything to show. Each answers a
 // number: bits 24 to 31 say why the call refuses (0 it does not, 1 to 17 the rule, 255 a length at this border is wrong or
 // a command no byte, and then nothing is written), bits 0 to 23 what it gives.
+#![tactic(auto)]
+
 pub mod channels;
 pub mod floats;
 pub mod numbers;

@@ -27,11 +27,11 @@ abbrev pub HeadsKept : (ℕ → Bool) → Type 0
 HeadsKept chosen =
     (A B : Tune) (calls : List Call) → Lent A → Lent B → open_rule A.tables A.opening ≡ 0 → open_rule B.tables B.opening ≡ 0
     → Revoiced chosen A B → sizes_given calls (answers_of A.tables (opened A) calls) ≤ 2 ^ 32
-    → (drives : List Drive) → HeadsAlike chosen (head.steps head.sixteenZeros (calls_on (answers_of A.tables (opened A) calls) drives)) (head.steps head.sixteenZeros (calls_on (answers_of B.tables (opened B) calls) drives))
+    → (drives : List Drive) → HeadsAlike chosen (head.steps head.sixteen_zeros (calls_on (answers_of A.tables (opened A) calls) drives)) (head.steps head.sixteen_zeros (calls_on (answers_of B.tables (opened B) calls) drives))
 
 -- steps that were made with the records that Section calls wrote
 pub record Driven (ms : List Made) (drives : List Drive) (hs : List head.Made) : Type 0 where
-  pub promised : head.Promised head.sixteenZeros hs
+  pub promised : head.Promised head.sixteen_zeros hs
   pub calls : map (λ h. h.call) hs ≡ calls_on (map read_back ms) drives
 
 -- the same of calls and steps that were made, against any on a tune which is re-voiced outside any set of channels

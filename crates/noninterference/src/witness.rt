@@ -14,7 +14,7 @@ use section::walk::section;
 use tune::opening::Opening;
 
 // What Open answered, and the two calls.
-#[derive(Drop)]
+#[derive(Clone, Copy)]
 pub struct TwoCalls {
     pub opened: Opened,
     pub first: Sectioned,

@@ -130,53 +130,53 @@ module _ (m : Song) (samples : List ℕ) (named : (n : ℕ) → lookup m n ≡ s
         ap (λ (c : Channel). (channel_tick m g (cell_of row n) (record { ch = c; a = l.a })).a) (o.ahead n (omega arith) h)
         ∙ turn_a m samples named fits g (cell_of row n) (info_byte n) (channel n) (get_or before n 0) (shaped n h).memory (shaped n h).bytes (channel_at_0 n h) l.a
 
-    scan-next : scanned row (suc n) (first_scan before) ≡ scan_of (set o.infos-now n (next n)) tick.a
+    scan_next : scanned row (suc n) (first_scan before) ≡ scan_of (set o.infos-now n (next n)) tick.a
     unfolding scanned
-    scan-next =
+    scan_next =
         ap (λ (s : Scan). heard s n k i) o.scan
         ∙ hear_same o.infos-now l.a n k i
         ∙ ap (λ (x : ℕ). scan_of (set o.infos-now n (info_after k i x)) (spoken k (pick (eqb k 19) (info_after k i x) i) l.a)) (o.unheard-info n (omega arith) h)
         ∙ ap (scan_of (set o.infos-now n (next n))) (sym tick_a)
 
-    volume-next : tick.a.pending_global_vol ≡ waiting row (suc n)
+    volume_next : tick.a.pending_global_vol ≡ waiting row (suc n)
     unfolding waiting
-    volume-next =
+    volume_next =
         ap (λ (a : Locals). a.pending_global_vol) tick_a
         ∙ waits_same k i (next n) l.a
         ∙ ap (λ (v : ByteOption). pick (waits k i) (Some i) v) o.volume
 
-    new-here : (j : ℕ) → j ≡ n → get_or (set l.channels n tick.ch) j «Channel::default» ≡ rust_channel (done j) (next j)
-    new-here j e = rw e (get_or-set_same l.channels n tick.ch «Channel::default» (omega (arith, o.long)) ∙ tick_ch)
+    new_here : (j : ℕ) → j ≡ n → get_or (set l.channels n tick.ch) j «Channel::default» ≡ rust_channel (done j) (next j)
+    new_here j e = rw e (get_or-set_same l.channels n tick.ch «Channel::default» (omega (arith, o.long)) ∙ tick_ch)
 
-    info-here : (j : ℕ) → j ≡ n → get_or (set o.infos-now n (next n)) j 0 ≡ next j
-    info-here j e = rw e (get_or-set_same o.infos-now n (next n) 0 (omega (arith, o.wide)))
+    info_here : (j : ℕ) → j ≡ n → get_or (set o.infos-now n (next n)) j 0 ≡ next j
+    info_here j e = rw e (get_or-set_same o.infos-now n (next n) 0 (omega (arith, o.wide)))
 
     abbrev struck : Bool
     struck = (play_channel m g (cell_of row n) (get_or l.channels n «Channel::default»)).struck
 
-    struck-is : struck ≡ struck_at n (channel n)
-    struck-is =
+    struck_is : struck ≡ struck_at n (channel n)
+    struck_is =
         ap (λ (c : Channel). (play_channel m g (cell_of row n) c).struck) (o.ahead n (omega arith) h)
         ∙ turn_struck m samples named fits g (cell_of row n) (info_byte n) (channel n) (get_or before n 0) (shaped n h).memory (shaped n h).bytes (channel_at_0 n h)
 
     mask_next : l.strikes + bit_at struck n + mask_from struck_at (suc n) (drop (suc n) cs) ≡ mask_from struck_at 0 cs
     mask_next =
-        ap (λ (b : Bool). l.strikes + bit_at b n + mask_from struck_at (suc n) (drop (suc n) cs)) struck-is
+        ap (λ (b : Bool). l.strikes + bit_at b n + mask_from struck_at (suc n) (drop (suc n) cs)) struck_is
         ∙ (let d = mask_drop struck_at cs n «Channel::default» (omega (arith, channels)) in let k = o.mask in omega arith)
 
-    holds-next : Holds (suc n) (store_turn n struck tick l)
+    holds_next : Holds (suc n) (store_turn n struck tick l)
     unfolding store_turn
-    holds-next =
+    holds_next =
         record {
           long = length-set l.channels n tick.ch ∙ o.long;
           infos-now = set o.infos-now n (next n);
           wide = length-set o.infos-now n (next n) ∙ o.wide;
-          heard-info = λ j b q. here_or j n (info-here j) (λ z. get_or-set_other o.infos-now n j (next n) 0 z ∙ o.heard-info j (omega arith) q);
+          heard-info = λ j b q. here_or j n (info_here j) (λ z. get_or-set_other o.infos-now n j (next n) 0 z ∙ o.heard-info j (omega arith) q);
           unheard-info = λ j b q. get_or-set_other o.infos-now n j (next n) 0 (λ e. omega arith) ∙ o.unheard-info j (omega arith) q;
-          passed_by = λ j b q. here_or j n (new-here j) (λ z. get_or-set_other l.channels n j tick.ch «Channel::default» z ∙ o.passed-by j (omega arith) q);
+          passed_by = λ j b q. here_or j n (new_here j) (λ z. get_or-set_other l.channels n j tick.ch «Channel::default» z ∙ o.passed-by j (omega arith) q);
           ahead = λ j b q. get_or-set_other l.channels n j tick.ch «Channel::default» (λ e. omega arith) ∙ o.ahead j (omega arith) q;
-          scan = scan-next;
-          volume = volume-next;
+          scan = scan_next;
+          volume = volume_next;
           mask = mask_next;
         }
 
@@ -188,4 +188,4 @@ module _ (m : Song) (samples : List ℕ) (named : (n : ℕ) → lookup m n ≡ s
       let l : Pass = pass m g false cells n start in
       subst (λ (c : Cell). Holds (suc n) (store_turn n (play_channel m g c (get_or l.channels n «Channel::default»)).struck (channel_tick m g c (record { ch = get_or l.channels n «Channel::default»; a = l.a })) l))
       (sym (Cell-at n (omega arith)))
-      (holds-next n (omega arith) l (holds n (omega arith)))
+      (holds_next n (omega arith) l (holds n (omega arith)))

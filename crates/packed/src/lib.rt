@@ -1,4 +1,6 @@
 // Unpacks one packed pattern of an S3M file.
+#![tactic(auto)]
+
 pub mod entry;
 
 ghost use Rattle.std.specs.Prelude.{◌≡◌, ◌||◌, ◌+◌, ◌^◌, ◌<◌, ltb, length};
@@ -10,7 +12,7 @@ ghost use Rattle.packed.specs.Unpacking.{step_place, step_cells, runs_past, empt
 use tune::parts::{copy_whole, put_at};
 
 // Where the unpacking stands: the next byte of the file, and the row.
-#[derive(Drop)]
+#[derive(Clone, Copy)]
 pub struct Place {
     pub at: usize,
     pub row: usize,

@@ -23,17 +23,17 @@ use Rattle.path_alone.specs.Rows.{beyond}
 module _ (orders cells : List ℕ) where
   rows_none : (m : ℕ) (q : Path) → q.ended ≡ true → rows_left orders cells m q ≡ 0
   unfolding rows_left
-  rows_none m q e = ap (λ (w : Walk). length w.rows) (walks.walk-ended orders cells m q e)
+  rows_none m q e = ap (λ (w : Walk). length w.rows) (walks.walk_ended orders cells m q e)
 
   rows_stop : (m : ℕ) (q : Path) → q.ended ≡ false → (entered orders cells q).path.ended ≡ true → rows_left orders cells (suc m) q ≡ 0
   unfolding rows_left path_walk onward
-  rows_stop m q e f = walks.turn-kinds orders cells (λ (x : Turn). length (onward x (path_walk orders cells m)).rows ≡ 0) q (λ d. refl) (λ d. refl) (λ d. cc)
+  rows_stop m q e f = walks.turn_kinds orders cells (λ (x : Turn). length (onward x (path_walk orders cells m)).rows ≡ 0) q (λ d. refl) (λ d. refl) (λ d. cc)
 
   rows_one : (m : ℕ) (q : Path) → q.ended ≡ false → (entered orders cells q).path.ended ≡ false
       → rows_left orders cells (suc m) q ≡ suc (rows_left orders cells m (left orders (entered orders cells q)))
   unfolding rows_left path_walk onward more
   rows_one m q e f =
-      walks.turn-kinds orders cells
+      walks.turn_kinds orders cells
       (λ (x : Turn). length (onward x (path_walk orders cells m)).rows ≡ suc (length (path_walk orders cells m (left orders (entered orders cells q))).rows)) q
       (λ d. cc) (λ d. cc) (λ d. refl)
 
@@ -59,11 +59,11 @@ module _ (orders cells : List ℕ) where
         }
 
     module _ (q : Path) (rows : ℕ) (I : Counting n p q rows) where
-      pub count-ended : q.ended ≡ true → rows ≡ rows_left orders cells n p
-      count-ended e = omega (arith, I.rest, rows_none (n - rows) q e)
+      pub count_ended : q.ended ≡ true → rows ≡ rows_left orders cells n p
+      count_ended e = omega (arith, I.rest, rows_none (n - rows) q e)
 
-      pub count-full : n ≤ rows → rows ≡ rows_left orders cells n p
-      count-full h =
+      pub count_full : n ≤ rows → rows ≡ rows_left orders cells n p
+      count_full h =
           let k : n - rows ≡ 0 = omega (arith, h) in
           let z : rows_left orders cells (n - rows) q ≡ 0 = ap (λ (m : ℕ). rows_left orders cells m q) k ∙ rows_zero q in
           omega (arith, I.rest, z)
@@ -72,14 +72,14 @@ module _ (orders cells : List ℕ) where
         next : n - rows ≡ suc (n - (rows + 1))
         next = omega (arith, l)
 
-        pub count-stopped : e.path.ended ≡ true → rows ≡ rows_left orders cells n p
-        count-stopped f =
+        pub count_stopped : e.path.ended ≡ true → rows ≡ rows_left orders cells n p
+        count_stopped f =
             let z : rows_left orders cells (n - rows) q ≡ 0 = ap (λ (m : ℕ). rows_left orders cells m q) next ∙ rows_stop (n - (rows + 1)) q d (sym (ap (λ (x : Entered). x.path.ended) g) ∙ f) in
             omega (arith, I.rest, z)
 
         -- what leave asks
-        pub count-leaves : n ≤ 2 ^ 31 → (32 ≤ e.path.clock.tempo) × (e.path.clock.rate ≤ 100000) × (e.path.clock.start ≤ 2 ^ 63)
-        count-leaves b =
+        pub count_leaves : n ≤ 2 ^ 31 → (32 ≤ e.path.clock.tempo) × (e.path.clock.rate ≤ 100000) × (e.path.clock.start ≤ 2 ^ 63)
+        count_leaves b =
             let s : Bounded e.path = subst⁻¹ (λ (x : Entered). Bounded x.path) g (entered_bounded orders cells q I.bounded).path in
             let c : e.path.clock.start ≡ q.clock.start = ap (λ (x : Entered). x.path.clock.start) g ∙ (entered_clock orders cells q).1 in
             (s.tempo, s.rate, omega (arith, c, I.start, l, b))

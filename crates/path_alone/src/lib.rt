@@ -1,4 +1,6 @@
 // The path alone, which the benchmark times: how many rows a tune has, with no channel and no record.
+#![tactic(auto)]
+
 ghost use Rattle.std.specs.Prelude.{◌≡◌, ◌≤◌, ◌^◌, length};
 ghost use Rattle.row_path.specs.Sound.{Bounded};
 ghost use Rattle.row_path.specs.Walk.{rows_left};

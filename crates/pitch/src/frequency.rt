@@ -10,8 +10,8 @@ use crate::periods::note_period;
 // x at 32 bits, nearest with ties to even. The exponent's field loses the difference of the two biases, 896, and the
 // digits are rounded to 29 fewer, a carry going into the field.
 fn narrow(x: f64) -> f32
-    requires fact_1 { T (le least x) }
-    requires fact_2 { T (le x most) }
+    requires above { T (le least x) }
+    requires below { T (le x most) }
     ensures { result ≡ narrowed x }
 {
     let p = f64::to_bits(x) - 0x3800_0000_0000_0000;

@@ -23,8 +23,8 @@ pub fn period_table() -> [u32; 36]
 
 // The period of note number n: up to 83 the octave 0 entry shifted right by the octave.
 pub fn period(n: usize, table: &[u32]) -> u32
-    requires fact_1 { n < 108 }
-    requires fact_2 { table.now ≡ kept_periods }
+    requires in_table { n < 108 }
+    requires kept { table.now ≡ kept_periods }
     ensures { result ≡ period_of n }
 {
     if n < 84 {
@@ -50,8 +50,8 @@ fn raised_number(note: u8, transposition: i8) -> usize
 
 // A note byte's number with a transposition.
 pub fn note_number(note: u8, transposition: i8) -> usize
-    ensures fact_1 { result ≡ note_number note transposition }
-    ensures fact_2 { result < 108 }
+    ensures value { result ≡ note_number note transposition }
+    ensures within { result < 108 }
 {
     let n = raised_number(note, transposition);
     if n < 128 {

@@ -88,8 +88,8 @@ fn group(up: bool) -> usize
 
 // How far behind it the factors of 0xE0 up begin.
 fn half(info: u8) -> usize
-    ensures fact_1 { result ≡ pick (leb 0xF0 info) 0 16 }
-    ensures fact_2 { result ≤ 16 }
+    ensures value { result ≡ pick (leb 0xF0 info) 0 16 }
+    ensures within { result ≤ 16 }
 {
     if 0xF0 <= info { 0 } else { 16 }
 }

@@ -71,7 +71,7 @@ last_none f x (m ∷ ms) e =
 last_parts : (f : List ℕ → List ℕ) (x : List ℕ) (es : List Made) (m : Made) (ms : List Made) → did Loaded m.says.values ≡ true → times Loaded ms ≡ 0 → last_of f x (es ++ (m ∷ ms)) ≡ f m.call.row
 unfolding last_of
 last_parts f x [] m ms d n = ap (λ (b : Bool). last_of f (pick b (f m.call.row) x) ms) d ∙ last_none f (f m.call.row) ms n
-last_parts f x (e ∷ es) m ms d n = last_parts f _ es m ms d n
+last_parts f x (e ∷ es) m ms d n = last_parts f (pick (did Loaded e.says.values) (f e.call.row) x) es m ms d n
 
 last_since : (f : List ℕ → List ℕ) (x : List ℕ) (ms : List Made) (l : Since Loaded Loaded ms) → last_of f x ms ≡ f l.step.call.row
 last_since f x ms l = ap (last_of f x) l.parts ∙ last_parts f x l.earlier l.step l.later l.done l.none_later
@@ -92,7 +92,7 @@ module _ (a b : Action) where
   there : (x : Bool) (es : List Made) (m : Made) (ms : List Made) → did a m.says.values ≡ true → times b ms ≡ 0 → turns a b x (es ++ (m ∷ ms)) ≡ true
   unfolding turns
   there x [] m ms d n = ap (λ (p : Bool). turns a b (pick p true (pick (did b m.says.values) false x)) ms) d ∙ stays ms n
-  there x (e ∷ es) m ms d n = there _ es m ms d n
+  there x (e ∷ es) m ms d n = there (pick (did a e.says.values) true (pick (did b e.says.values) false x)) es m ms d n
 
   since_set : (x : Bool) (ms : List Made) → Since a b ms → turns a b x ms ≡ true
   since_set x ms l = ap (turns a b x) l.parts ∙ there x l.earlier l.step l.later l.done l.none_later

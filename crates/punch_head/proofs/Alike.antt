@@ -59,25 +59,25 @@ module _ (chosen : ℕ → Bool) where
   others_same g h l = others_is g l.first ∙ (λ i. l.front i ++ l.position i) ∙ sym (others_is h l.second)
 
   module _ (g h : List ℕ) (l : Like g h) (c d : Call) (e : c.command ≡ d.command) (w : RowsAlike chosen c.row d.row) where
-    status-same : status_of g ≡ status_of h
-    status-same = sym (get_or-take 4 g 1 0 (omega arith)) ∙ ap (λ (b : List ℕ). get_or b 1 0) l.front ∙ get_or-take 4 h 1 0 (omega arith)
+    status_same : status_of g ≡ status_of h
+    status_same = sym (get_or-take 4 g 1 0 (omega arith)) ∙ ap (λ (b : List ℕ). get_or b 1 0) l.front ∙ get_or-take 4 h 1 0 (omega arith)
 
-    rules-same : head_rule g c.command c.row ≡ head_rule h d.command d.row
+    rules_same : head_rule g c.command c.row ≡ head_rule h d.command d.row
     unfolding head_rule load_rule
-    rules-same = λ i. or_else ((kept_rule g l.first.kept ∙ sym (kept_rule h l.second.kept)) i) (refuse 13 (eqb (e i) 1 && not (eqb (w.size i) 536)))
+    rules_same = λ i. or_else ((kept_rule g l.first.kept ∙ sym (kept_rule h l.second.kept)) i) (refuse 13 (eqb (e i) 1 && not (eqb (w.size i) 536)))
 
     says_same : step_says g c.command c.row ≡ step_says h d.command d.row
-    says_same = λ i. said (rules-same i) (action_of (e i) (is_on (status-same i) 0))
+    says_same = λ i. said (rules_same i) (action_of (e i) (is_on (status_same i) 0))
 
-    step-like : Like (step_registers g c.command c.row) (step_registers h d.command d.row)
-    step-like =
+    step_like : Like (step_registers g c.command c.row) (step_registers h d.command d.row)
+    step_like =
         let x = step_effect g c.command c.row l.first in
         let y = step_effect h d.command d.row l.second in
         record {
           first = x.sound;
           second = y.sound;
           front = front_after g c.command c.row
-              ∙ (λ i. pick (eqb (rules-same i) 0) (e i ∷ status_by (action_of (e i) (is_on (status-same i) 0)) (status-same i) ∷ 0 ∷ 0 ∷ []) (l.front i))
+              ∙ (λ i. pick (eqb (rules_same i) 0) (e i ∷ status_by (action_of (e i) (is_on (status_same i) 0)) (status_same i) ∷ 0 ∷ 0 ∷ []) (l.front i))
               ∙ sym (front_after h d.command d.row);
           position = x.position ∙ (λ i. pick (did Loaded (says_same i).values) (w.start i) (l.position i)) ∙ sym y.position;
           bits = λ k b t.
@@ -92,7 +92,7 @@ module _ (chosen : ℕ → Bool) where
   like_heads [] (d ∷ ds) g h l a = absurd a
   like_heads (c ∷ cs) [] g h l a = absurd a
   like_heads (c ∷ cs) (d ∷ ds) g h l a =
-      let n = step-like g h l c d a.0 a.1 in
+      let n = step_like g h l c d a.0 a.1 in
       let t = like_heads cs ds (step_registers g c.command c.row) (step_registers h d.command d.row) n a.2 in
       record {
         says = λ i. says_same g h l c d a.0 a.1 i ∷ t.says i;

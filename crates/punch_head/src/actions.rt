@@ -4,7 +4,7 @@ ghost use Rattle.punch_head.specs.Steps.{action_of, same};
 ghost use Rattle.punch_head.specs.declared.actions.Action.TheVariants.{Loaded};
 
 // A load taken, or late since one was loaded; a strike done; a clear; nothing more than the command kept.
-#[derive(Drop)]
+#[derive(Clone, Copy)]
 pub enum Action {
     Loaded,
     Late,

@@ -1,4 +1,6 @@
 // The punch head's sixteen registers, which a command steps (02, 2026-05).
+#![tactic(auto)]
+
 pub mod actions;
 pub mod rules;
 pub mod status;
@@ -14,7 +16,7 @@ use status::{is_loaded, status_by};
 use tune::parts::put_at;
 
 // What a step did, or the number of the rule that refuses it.
-#[derive(Drop)]
+#[derive(Clone, Copy)]
 pub enum Stepped {
     Done(Action),
     Refused(u8),

@@ -6,7 +6,7 @@ ghost use Rattle.punch_head.specs.Histories.{Made, Promised, sixteen_zeros, Acco
 use crate::{Stepped, step};
 
 // What both steps said, and the registers behind each.
-#[derive(Drop)]
+#[derive(Clone, Copy)]
 pub struct TwoSteps {
     pub first: Stepped,
     pub between: [u8; 16],

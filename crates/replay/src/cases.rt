@@ -10,7 +10,7 @@ use crate::tally::compared;
 use tune::numbers::u32_at;
 
 // How many bytes are lent, and how many pieces there are before and after the call.
-#[derive(Drop)]
+#[derive(Clone, Copy)]
 struct Slot {
     length: usize,
     before: usize,

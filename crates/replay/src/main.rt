@@ -1,5 +1,7 @@
 // Makes each call of the list `calls` anew and compares what the function answers and leaves in the lent bytes with what
 // was recorded (oracle/README.md has the layout).
+#![tactic(auto)]
+
 mod calls;
 mod cases;
 mod input;

@@ -44,15 +44,15 @@ pub skipped_least : (orders : List ℕ) (at : ℕ) → at ≤ skipped orders at
 unfolding skipped
 skipped_least orders at = skip_least (drop at orders) at
 
-ended_at : (cells : List ℕ) (p : Path) (order : ℕ) (named : ByteOption) → p.ended ≡ true → (entered_at cells p order named).path.ended ≡ true
+ended_at_lem : (cells : List ℕ) (p : Path) (order : ℕ) (named : ByteOption) → p.ended ≡ true → (entered_at cells p order named).path.ended ≡ true
 unfolding entered_at ended_at arrived visited acted settled
-ended_at cells p order None h = refl
-ended_at cells p order (Some v) h = choice (λ (e : Entered). e.path.ended ≡ true) p.hold.held (λ _. h) (λ _. h)
+ended_at_lem cells p order None h = refl
+ended_at_lem cells p order (Some v) h = choice (λ (e : Entered). e.path.ended ≡ true) p.hold.held (λ _. h) (λ _. h)
 
 -- a path that has ended stays so under enter
 pub entered_ended : (orders cells : List ℕ) (p : Path) → p.ended ≡ true → (entered orders cells p).path.ended ≡ true
 unfolding entered
-entered_ended orders cells p h = ended_at cells p (skipped orders p.place.order) (pattern_at orders (pattern_count cells) (skipped orders p.place.order)) h
+entered_ended orders cells p h = ended_at_lem cells p (skipped orders p.place.order) (pattern_at orders (pattern_count cells) (skipped orders p.place.order)) h
 
 or_first : (a b : Bool) → a ≡ true → (a || b) ≡ true
 or_first true b e = refl

@@ -5,14 +5,14 @@ ghost use Rattle.row_path.specs.Loops as spec;
 
 use crate::option::{ByteOption, is_at};
 
-#[derive(Drop)]
+#[derive(Clone, Copy)]
 pub struct Place {
     pub order: u8,
     pub row: u8,
 }
 
 // The order that the loop belongs to, the row it goes back to, and how often it still does.
-#[derive(Drop)]
+#[derive(Clone, Copy)]
 pub struct PatternLoop {
     pub order: ByteOption,
     pub start_row: u8,
@@ -20,13 +20,13 @@ pub struct PatternLoop {
 }
 
 // Where a row jumps to: an order, the next one where it is absent, and a row.
-#[derive(Drop)]
+#[derive(Clone, Copy)]
 pub enum Jump {
     Stay,
     To(ByteOption, u8),
 }
 
-#[derive(Drop)]
+#[derive(Clone, Copy)]
 pub struct Looped {
     pub pattern_loop: PatternLoop,
     pub jump: Jump,

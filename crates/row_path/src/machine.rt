@@ -14,7 +14,7 @@ use tune::cells::row_cells;
 use tune::numbers::wide;
 
 // How often the row is still held, and whether this visit is a held one.
-#[derive(Drop)]
+#[derive(Clone, Copy)]
 pub struct Hold {
     pub left: u8,
     pub held: bool,
@@ -22,7 +22,7 @@ pub struct Hold {
 
 // Rate is in micrometres a second; start is where the row starts on the card, in whole micrometres, and remainder how much
 // further on that is, in units of 1/(2 × tempo) of one.
-#[derive(Drop)]
+#[derive(Clone, Copy)]
 pub struct Clock {
     pub speed: u8,
     pub tempo: u8,
@@ -32,7 +32,7 @@ pub struct Clock {
 }
 
 // The path's state, with each channel's last S info that was not 0.
-#[derive(Drop)]
+#[derive(Clone, Copy)]
 pub struct Path {
     pub place: Place,
     pub pattern_loop: PatternLoop,
@@ -43,7 +43,7 @@ pub struct Path {
 }
 
 // A row that was entered: the path, the jump that waits for the leave, and the pattern.
-#[derive(Drop)]
+#[derive(Clone, Copy)]
 pub struct Entered {
     pub path: Path,
     pub jump: Jump,

@@ -2,7 +2,7 @@
 ghost use Rattle.std.specs.Prelude.{◌≡◌};
 ghost use Rattle.row_path.specs.Option.{is_at, or_before};
 
-#[derive(Drop)]
+#[derive(Clone, Copy)]
 pub enum ByteOption {
     None,
     Some(u8),

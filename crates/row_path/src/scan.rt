@@ -11,7 +11,7 @@ use tune::cells::cell_of;
 use tune::numbers::{high_nibble, low_nibble};
 
 // The Rust's row-level variables, and each channel's last S info that was not 0.
-#[derive(Drop)]
+#[derive(Clone, Copy)]
 pub struct Scan {
     pub row_speed: ByteOption,
     pub row_tempo: ByteOption,

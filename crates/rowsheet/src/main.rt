@@ -1,5 +1,7 @@
 // Prints the row sheet of the S3M file on standard input. Its last line says `end`, `more` or `refused`: a program has
 // no exit status of its own.
+#![tactic(auto)]
+
 mod rows;
 
 ghost use Rattle.std.specs.Prelude.{◌≡◌, ◌*◌, ◌≤◌, length};

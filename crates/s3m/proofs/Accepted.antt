@@ -14,7 +14,7 @@ use Rattle.laws.specs.Refusals.{Said, said}
 use Rattle.laws.proofs.Picks.{and_true, or_false}
 use Rattle.laws.proofs.Rules.{sound, kept, not_zero}
 use Rattle.tune.specs.Opening.{levels_broken}
-use Rattle.s3m.specs.Layout.{counts_of, instruments_at, pans_at, has_pans, lists_end}
+use Rattle.s3m.specs.Layout.{counts_of, instruments_at, pans_place, has_pans, lists_end}
 use Rattle.s3m.specs.Instruments.{instruments_past}
 use Rattle.s3m.specs.declared.header.Counts.{Counts}
 use Rattle.s3m.specs.declared.header.Measured.{Measured}
@@ -63,7 +63,7 @@ pub record Listed (s : List ℕ) (c : Counts) : Type 0 where
 pub listed : (s : List ℕ) (c : Counts) → c ≡ counts_of s → measure_rule s ≡ 0 → Listed s c
 listed s c e m =
     let a = accepted s m in
-    let lists : pans_at (counts_of s) ≤ length s = le_trans (pans-least (has_pans s) (pans_at (counts_of s))) a.lists in
+    let lists : pans_place (counts_of s) ≤ length s = le_trans (pans-least (has_pans s) (pans_place (counts_of s))) a.lists in
     subst⁻¹ (Listed s) e (record {
       orders_few = a.orders_most;
       instruments_few = a.instruments_most;

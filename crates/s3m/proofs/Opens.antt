@@ -16,7 +16,7 @@ use Rattle.laws.proofs.Tables.{every_tabulated}
 use Rattle.tune.specs.Transposition.{beyond24}
 use Rattle.tune.specs.Sizes.{orders_fit, cells_fit, samples_fit, rule9}
 use Rattle.tune.specs.Opening.{rate_broken, channel_broken, channels_kept, rule10, UntransposedOpening}
-use Rattle.s3m.specs.Layout.{counts_of, instruments_at, patterns_at, pans_at, has_pans, pointer_at, bytes_at}
+use Rattle.s3m.specs.Layout.{counts_of, instruments_at, patterns_at, pans_place, has_pans, pointer_at, bytes_at}
 use Rattle.s3m.specs.Instruments.{instrument_sample, samples_of}
 use Rattle.s3m.specs.Patterns.{pattern_cells, cells_of}
 use Rattle.s3m.specs.Opening.{pan_of, fixed_by, channel_opening, channel_at, opening_of}
@@ -61,7 +61,7 @@ pub read_untransposed : (s : List ℕ) (rate : ℕ) → UntransposedOpening (ope
 unfolding opening_of
 read_untransposed s rate k d b =
     tabulate_each (λ c. c.fixed.transposition ≡ pos 0) 32 (channel_at s)
-    (λ j _. no_transposition (get_or s (64 + j) 0) (has_pans s) (get_or s (pans_at (counts_of s) + j) 0)) d k
+    (λ j _. no_transposition (get_or s (64 + j) 0) (has_pans s) (get_or s (pans_place (counts_of s) + j) 0)) d k
     (subst (λ (n : ℕ). k < n) (length-tabulate 32 (channel_at s)) b)
 
 pan_kept : (setting : ℕ) (pans : Bool) (byte : ℕ) → ltb 15 (pan_of setting pans byte) ≡ false
@@ -79,5 +79,5 @@ pub opening_ranged : (s : List ℕ) (rate : ℕ) → measure_rule s ≡ 0 → ru
 unfolding rule10 opening_of
 opening_ranged s rate e =
     let channels : channels_kept (opening_of s rate).channels ≡ true =
-    every_tabulated (λ c. not (channel_broken c)) (channel_at s) (λ k. channel_kept (get_or s (64 + k) 0) (has_pans s) (get_or s (pans_at (counts_of s) + k) 0)) 32 0 in
+    every_tabulated (λ c. not (channel_broken c)) (channel_at s) (λ k. channel_kept (get_or s (64 + k) 0) (has_pans s) (get_or s (pans_place (counts_of s) + k) 0)) 32 0 in
     rw ((accepted s e).levels, channels)

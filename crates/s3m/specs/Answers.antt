@@ -14,7 +14,6 @@ use Rattle.s3m.specs.declared.header.Counts.{Counts}
 use Rattle.s3m.specs.declared.header.Measured.{Measured}
 use Rattle.s3m.specs.declared.header.Measured.TheVariants.{Found, Refused}
 use Rattle.s3m.specs.declared.ReadAnswer.{ReadAnswer}
-use Rattle.s3m.specs.declared.ReadAnswer.TheVariants as ReadAnswer
 use Rattle.s3m.specs.declared.ReadAnswer.TheVariants.{Done}
 use Rattle.s3m.specs.declared.Reading.{Reading}
 

@@ -17,15 +17,15 @@ abbrev pub patterns_at : Counts → ℕ
 patterns_at c = instruments_at c + c.instruments * 2
 
 -- then 32 pans, if byte 53 is 252
-abbrev pub pans_at : Counts → ℕ
-pans_at c = patterns_at c + c.patterns * 2
+abbrev pub pans_place : Counts → ℕ
+pans_place c = patterns_at c + c.patterns * 2
 
 abbrev pub has_pans : List ℕ → Bool
 has_pans s = eqb (get_or s 53 0) 252
 
 -- where the lists end
 abbrev pub lists_end : List ℕ → Counts → ℕ
-lists_end s c = pick (has_pans s) (pans_at c + 32) (pans_at c)
+lists_end s c = pick (has_pans s) (pans_place c + 32) (pans_place c)
 
 -- pointer k of a list
 abbrev pub pointer_at : List ℕ → ℕ → ℕ → ℕ

@@ -7,7 +7,7 @@ use Rattle.tune.specs.Numbers.{little_at}
 use Rattle.tune.specs.declared.opening.Fixed.{Fixed}
 use Rattle.tune.specs.declared.opening.ChannelOpening.{ChannelOpening}
 use Rattle.tune.specs.declared.opening.Opening.{Opening}
-use Rattle.s3m.specs.Layout.{counts_of, pans_at, has_pans}
+use Rattle.s3m.specs.Layout.{counts_of, pans_place, has_pans}
 
 -- setting mod 128: 0 to 7 left, pan 3; 8 to 15 right, pan 12; others pan 8
 abbrev pub setting_pan : ℕ → ℕ
@@ -37,7 +37,7 @@ channel_opening byte pans pan =
 
 -- channel settings from 64, the pans behind the lists
 abbrev pub channel_at : List ℕ → ℕ → ChannelOpening
-channel_at s k = channel_opening (get_or s (64 + k) 0) (has_pans s) (get_or s (pans_at (counts_of s) + k) 0)
+channel_at s k = channel_opening (get_or s (64 + k) 0) (has_pans s) (get_or s (pans_place (counts_of s) + k) 0)
 
 -- flags at 38 (16: Amiga limits; 64, or 0x1300 at 40: fast slides); global volume, speed, tempo at 48, 49, 50
 unfoldable pub opening_of : List ℕ → ℕ → Opening

@@ -9,14 +9,14 @@ use tune::numbers::u16_at;
 use tune::opening::levels_broken;
 use tune::refusals::{first_of, refusal};
 
-#[derive(Drop)]
+#[derive(Clone, Copy)]
 pub struct Counts {
     pub orders: usize,
     pub instruments: usize,
     pub patterns: usize,
 }
 
-#[derive(Drop)]
+#[derive(Clone, Copy)]
 pub enum Measured {
     Found(Counts),
     Refused(u8),
@@ -26,7 +26,7 @@ pub enum Measured {
 pub fn counts_of(file: &[u8]) -> Counts
     requires { 96 ≤ length file.now }
     ensures value { result ≡ counts_of file.now }
-    ensures orders_bound { (result.orders < 65536) × (result.instruments < 65536) × (result.patterns < 65536) }
+    ensures small { (result.orders < 65536) × (result.instruments < 65536) × (result.patterns < 65536) }
 {
     Counts {
         orders: u16_at(file, 32),
@@ -97,7 +97,7 @@ pub fn measure_rule(file: &[u8]) -> u8
 // Measure: the numbers of orders, instruments and patterns, or why not.
 pub fn measure(file: &[u8]) -> Measured
     ensures value { result ≡ measured file.now }
-    ensures result_value { measured_says result ≡ said (measure_rule file.now) (counts_of file.now) }
+    ensures says { measured_says result ≡ said (measure_rule file.now) (counts_of file.now) }
 {
     let refused = measure_rule(file);
     if refused != 0 {

@@ -81,8 +81,8 @@ fn put_instrument(part: &mut [u8], file: &[u8], pointer: usize)
 
 // The samples of the n pointers of a list, none of which breaks rule 7.
 pub fn read_samples(file: &[u8], list: usize, n: usize, samples: &mut [u8])
-    requires n_bound { (n ≤ 99) × (list + n * 2 ≤ length file.now) × (length samples.old ≡ n * 20) }
-    requires n_value { instruments_past file.now list n ≡ false }
+    requires inside { (n ≤ 99) × (list + n * 2 ≤ length file.now) × (length samples.old ≡ n * 20) }
+    requires there { instruments_past file.now list n ≡ false }
     ensures { samples.new ≡ samples_of file.now list n }
 {
     let mut k: usize = 0;

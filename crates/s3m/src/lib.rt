@@ -1,4 +1,6 @@
 // Reads an S3M file: `header::measure` and `read`.
+#![tactic(auto)]
+
 pub mod header;
 pub mod instruments;
 pub mod opening;
@@ -19,13 +21,13 @@ use tune::opening::{Opening, blank_opening};
 use tune::parts::copy_from;
 use tune::refusals::{first_of, refusal};
 
-#[derive(Drop)]
+#[derive(Clone, Copy)]
 pub enum ReadAnswer {
     Done,
     Refused(u8),
 }
 
-#[derive(Drop)]
+#[derive(Clone, Copy)]
 pub struct Reading {
     pub answer: ReadAnswer,
     pub opening: Opening,
@@ -85,7 +87,7 @@ pub fn read(
     cells: &mut [u8],
 ) -> Reading
     ensures value { result ≡ reading file.now rate (refusal_of file.now orders.old samples.old cells.old) }
-    ensures opening_value { read_says result.answer result.opening ≡ said (refusal_of file.now orders.old samples.old cells.old) (opening_of file.now rate) }
+    ensures says { read_says result.answer result.opening ≡ said (refusal_of file.now orders.old samples.old cells.old) (opening_of file.now rate) }
     ensures orders_after { orders.new ≡ orders_after file.now (refusal_of file.now orders.old samples.old cells.old) orders.old }
     ensures samples_after { samples.new ≡ samples_after file.now (refusal_of file.now orders.old samples.old cells.old) samples.old }
     ensures cells_after { cells.new ≡ cells_after file.now (refusal_of file.now orders.old samples.old cells.old) cells.old }

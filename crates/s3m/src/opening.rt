@@ -1,7 +1,7 @@
 // The opening values of a file: flags, levels, channel settings and pans.
 ghost use Rattle.std.specs.Prelude.{◌≡◌, ◌%◌, ◌<◌, ◌≤◌, length};
 ghost use Rattle.laws.specs.Entries.{tabulate};
-ghost use Rattle.s3m.specs.Layout.{counts_of, pans_at};
+ghost use Rattle.s3m.specs.Layout.{counts_of, pans_place};
 ghost use Rattle.s3m.specs.Opening.{setting_pan, pan_of, fixed_by, channel_opening, channel_at, opening_of};
 
 use packed::entry::{bit_of, byte_at};
@@ -58,7 +58,7 @@ fn channel_opening(byte: u8, pans: bool, pan: u8) -> ChannelOpening
 
 // Channel k, with the pans at a place.
 fn channel_at(file: &[u8], pans_at: usize, k: usize) -> ChannelOpening
-    requires { (k < 32) × (pans_at ≡ pans_at (counts_of file.now)) × (pans_at < 1000000) }
+    requires { (k < 32) × (pans_at ≡ pans_place (counts_of file.now)) × (pans_at < 1000000) }
     ensures { result ≡ channel_at file.now k }
 {
     let pans = byte_at(file, 53) == 252;
@@ -66,7 +66,7 @@ fn channel_at(file: &[u8], pans_at: usize, k: usize) -> ChannelOpening
 }
 
 fn channels_of(file: &[u8], pans_at: usize) -> [ChannelOpening; 32]
-    requires { (pans_at ≡ pans_at (counts_of file.now)) × (pans_at < 1000000) }
+    requires { (pans_at ≡ pans_place (counts_of file.now)) × (pans_at < 1000000) }
     ensures { result ≡ tabulate 32 (channel_at file.now) }
 {
     let mut channels = [channel_opening(0, false, 0); 32];
@@ -80,7 +80,7 @@ fn channels_of(file: &[u8], pans_at: usize) -> [ChannelOpening; 32]
 
 // The opening values, with the rate that is handed in.
 pub fn opening_of(file: &[u8], rate: u32, pans_at: usize) -> Opening
-    requires { (96 ≤ length file.now) × (pans_at ≡ pans_at (counts_of file.now)) × (pans_at < 1000000) }
+    requires { (96 ≤ length file.now) × (pans_at ≡ pans_place (counts_of file.now)) × (pans_at < 1000000) }
     ensures { result ≡ opening_of file.now rate }
 {
     let channels = channels_of(file, pans_at);

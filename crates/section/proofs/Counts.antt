@@ -15,7 +15,7 @@ unfolding answer_by gave section_of sectioned
 rows_most t s n room = by_rule (section_rule t s n room)
   where
     by_rule : (r : ℕ) → (sectioned (answer_by r s (walk t n s))).rows ≤ n
-    by_rule zero = subst⁻¹ (λ m. m ≤ n) (walk_count t n s) (path.rows-most t.orders t.cells n s.path)
+    by_rule zero = subst⁻¹ (λ m. m ≤ n) (walk_count t n s) (path.rows_most t.orders t.cells n s.path)
     by_rule (suc r) = omega arith
 
 pub rows_short : (t : Tables) (s : State) (n room : ℕ) → section_rule t s n room ≡ 0 → (sectioned (section_of t s n room)).rows < n → (sectioned (section_of t s n room)).ended ≡ true

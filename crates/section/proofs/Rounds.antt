@@ -136,18 +136,18 @@ module _ {t : Tables} {n : ℕ} {out₀ : List ℕ} {s₀ : State} where
           infos = entered_size t.orders t.cells s.path ∙ I.infos;
         }
 
-    pub round-entry : (e : Entered) → e ≡ entered t.orders t.cells s.path → e.path.ended ≡ false → Entry t e
-    round-entry e q f = subst (Entry t) (sym q) (entry (ap (λ (x : Entered). x.path.ended) (sym q) ∙ f))
+    pub round_entry : (e : Entered) → e ≡ entered t.orders t.cells s.path → e.path.ended ≡ false → Entry t e
+    round_entry e q f = subst (Entry t) (sym q) (entry (ap (λ (x : Entered). x.path.ended) (sym q) ∙ f))
 
     -- one row more
-    pub round-next : (e : Entered) (p : Path) (r : Rowed) (out' : List ℕ)
+    pub round_next : (e : Entered) (p : Path) (r : Rowed) (out' : List ℕ)
         → rows < n → s.path.ended ≡ false → e ≡ entered t.orders t.cells s.path → e.path.ended ≡ false
         → p ≡ left t.orders e → p.clock.start ≤ e.path.clock.start + 2 ^ 32
         → row_played t s.switches e (voices_of s) ≡ r → length r.channels ≡ 32 → ((d : Channel) → Numbered d r.channels)
         → out' ≡ take (rows * 536) out ++ (record_bytes e s.global_volume r.strikes r.channels ++ drop (rows * 536 + 536) out)
         → Round t n out₀ s₀ out' (record { path = p; channels = r.channels; global_volume = r.global_volume; switches = s.switches }) (rows + 1)
     unfolding record_of voices_after state_with
-    round-next e p r out' l a q f g b v c m eo =
+    round_next e p r out' l a q f g b v c m eo =
         let x = entered t.orders t.cells s.path in
         let bytes = record_bytes e s.global_volume r.strikes r.channels in
         let y : Rowed → Entered → Path → Walked = λ (u : Rowed) (z : Entered) (h : Path). record { records = record_bytes z s.global_volume u.strikes u.channels ∷ []; state = record { path = h; channels = u.channels; global_volume = u.global_volume; switches = s.switches } } in
@@ -204,16 +204,16 @@ module _ {t : Tables} {n : ℕ} {out₀ : List ℕ} {s₀ : State} where
         )
 
     -- the tune had ended
-    pub round-ended : (r : Sectioned) → s.path.ended ≡ true → r ≡ record { refusal = 0; rows = rows; ended = s.path.ended; state = s }
+    pub round_ended : (r : Sectioned) → s.path.ended ≡ true → r ≡ record { refusal = 0; rows = rows; ended = s.path.ended; state = s }
         → (r ≡ sectioned (gave (walk t n s₀))) × (out ≡ output_after out₀ (gave (walk t n s₀)))
-    round-ended r e g = ends s r (walk_ended t (n - rows) s e) g
+    round_ended r e g = ends s r (walk_ended t (n - rows) s e) g
 
     -- entering ends it
-    pub round-stopped : (e : Entered) (r : Sectioned) → rows < n → s.path.ended ≡ false → e ≡ entered t.orders t.cells s.path → e.path.ended ≡ true
+    pub round_stopped : (e : Entered) (r : Sectioned) → rows < n → s.path.ended ≡ false → e ≡ entered t.orders t.cells s.path → e.path.ended ≡ true
         → r ≡ record { refusal = 0; rows = rows; ended = e.path.ended; state = record { path = e.path; channels = s.channels; global_volume = s.global_volume; switches = s.switches } }
         → (r ≡ sectioned (gave (walk t n s₀))) × (out ≡ output_after out₀ (gave (walk t n s₀)))
     unfolding state_with
-    round-stopped e r l a q f g =
+    round_stopped e r l a q f g =
         let m : n - rows ≡ suc (n - suc rows) = omega arith in
         ends (state_with s e.path (voices_of s)) r
         (ap (λ (k : ℕ). walk t k s) m
@@ -221,9 +221,9 @@ module _ {t : Tables} {n : ℕ} {out₀ : List ℕ} {s₀ : State} where
         ∙ ap (λ (z : Entered). record { records = []; state = state_with s z.path (voices_of s) }) (sym q)) g
 
     -- n rows are out
-    pub round-full : (r : Sectioned) → n ≤ rows → r ≡ record { refusal = 0; rows = rows; ended = s.path.ended; state = s }
+    pub round_full : (r : Sectioned) → n ≤ rows → r ≡ record { refusal = 0; rows = rows; ended = s.path.ended; state = s }
         → (r ≡ sectioned (gave (walk t n s₀))) × (out ≡ output_after out₀ (gave (walk t n s₀)))
     unfolding walk
-    round-full r l g =
+    round_full r l g =
         let m : n - rows ≡ 0 = omega arith in
         ends s r (ap (λ (k : ℕ). walk t k s) m) g

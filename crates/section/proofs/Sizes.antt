@@ -73,7 +73,7 @@ module _ (t : Tables) (w : Switches) where
   unfolding row_played row_visited row_entered
   played_count e v =
       choice (λ (r : Rowed). length r.channels ≡ length v.channels) e.path.hold.held (λ _. refl)
-      (λ _. own.channels-length (row_cells t.cells e.pattern e.path.place.row) e.path.s_info t.samples w v.global_volume v.channels)
+      (λ _. own.channels_length (row_cells t.cells e.pattern e.path.place.row) e.path.s_info t.samples w v.global_volume v.channels)
 
   -- a strike mask of 32 channels has 32 bits
   pub strikes_below : (e : Entered) (v : Voices) → length v.channels ≡ 32 → (row_played t w e v).strikes < 2 ^ 32

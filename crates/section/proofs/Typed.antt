@@ -1,16 +1,17 @@
 -- What the types of a state give of it, drawn from what owning its values says. Assumes nothing.
 use Prim.Native.Nat.{ℕ, zero, suc, ◌<◌}
-use mathlib.Core.Path.{◌≡◌, refl, sym, ◌∙◌}
+use mathlib.Core.Path.{◌≡◌, refl}
 use mathlib.Core.Bool.{Bool, true, false}
-use mathlib.Core.List.{List, [], ◌∷◌, map}
+use mathlib.Core.List.{List, [], ◌∷◌}
 use native.Mathlib.Omega.{arith}
 use borrow.Author.Tests.{ltb-true, ltb-false}
 use lib.Dec.{ltb}
-use lib.ListN.{length, get_or, length-map, get_or-eq_default}
+use lib.ListN.{length, get_or, get_or-eq_default}
 use mir.Val.{Val}
 use denote.Shadow.{shadow}
-use denote.Array.{each}
-use denote.Struct.Field.{Field, array_field, u8-field}
+use denote.RattleType.{RattleType}
+use denote.Array.{Array, each}
+use denote.Builtin.{u8}
 use Rattle.tune.specs.declared.opening.Opening.{Opening}
 use Rattle.tune.specs.contracts.opening.Opening as opening
 use Rattle.tune.specs.contracts.opening.ChannelOpening as channel_opening
@@ -21,22 +22,22 @@ use Rattle.section.specs.Typed.{ShapedChannel, Shaped, ShapedOpening}
 use Rattle.section.specs.declared.state.State.{State}
 use Rattle.section.specs.contracts.state.State as state
 
-each_entry : (F : Field) (P : F.Value → Type 0) → ((x : F.Value) (vs : List Val) → shadow (F.row.own_val (F.into x) vs) → P x)
-    → (xs : List F.Value) (us : List Val) → shadow (each F.row.Denot F.row.own_val (map F.into xs) us) → (i : ℕ) (d : F.Value) → i < length xs → P (get_or xs i d)
-each_entry F P one [] us h i d l = absurd (none i l)
+each_entry : (R : RattleType) (P : R.Denot → Type 0) → ((x : R.Denot) (vs : List Val) → shadow (R.own_val x vs) → P x)
+    → (xs : List R.Denot) (us : List Val) → shadow (each R.Denot R.own_val xs us) → (i : ℕ) (d : R.Denot) → i < length xs → P (get_or xs i d)
+each_entry R P one [] us h i d l = absurd (none i l)
   where
     none : (i : ℕ) → i < 0 → ⊥
     none i l = omega arith
-each_entry F P one (x ∷ xs) [] h i d l = absurd h
-each_entry F P one (x ∷ xs) (u ∷ us) h zero d l = one x (u ∷ []) h.0
-each_entry F P one (x ∷ xs) (u ∷ us) h (suc i) d l = each_entry F P one xs us h.1 i d (omega arith)
+each_entry R P one (x ∷ xs) [] h i d l = absurd h
+each_entry R P one (x ∷ xs) (u ∷ us) h zero d l = one x (u ∷ []) h.0
+each_entry R P one (x ∷ xs) (u ∷ us) h (suc i) d l = each_entry R P one xs us h.1 i d (omega arith)
 
 -- an array has n entries, each of which has what its type gives
-pub array_typed : (F : Field) (n : ℕ) (P : F.Value → Type 0) → ((x : F.Value) (vs : List Val) → shadow (F.row.own_val (F.into x) vs) → P x)
-    → (xs : List F.Value) (vs : List Val) → shadow ((array_field F n).row.own_val (map F.into xs) vs) → (length xs ≡ n) × ((i : ℕ) (d : F.Value) → i < n → P (get_or xs i d))
-array_typed F n P one xs vs h =
-    let e : length xs ≡ n = sym (length-map xs F.into) ∙ h.1.0.1 in
-    (e, λ i d l. each_entry F P one xs h.0 h.1.1 i d (omega arith))
+pub array_typed : (R : RattleType) (n : ℕ) (P : R.Denot → Type 0) → ((x : R.Denot) (vs : List Val) → shadow (R.own_val x vs) → P x)
+    → (xs : List R.Denot) (vs : List Val) → shadow ((Array R n).own_val xs vs) → (length xs ≡ n) × ((i : ℕ) (d : R.Denot) → i < n → P (get_or xs i d))
+array_typed R n P one xs vs h =
+    let e : length xs ≡ n = h.1.0.1 in
+    (e, λ i d l. each_entry R P one xs h.0 h.1.1 i d (omega arith))
 
 some_bytes : (xs : List ℕ) (n : ℕ) → length xs ≡ n → ((i d : ℕ) → i < n → get_or xs i d < 256) → Bytes xs
 some_bytes xs n e h k = by (ltb k n) refl
@@ -45,22 +46,22 @@ some_bytes xs n e h k = by (ltb k n) refl
     by true q = h k 0 (ltb-true k n q)
     by false q = rw (get_or-eq_default xs 0 {n = k} (omega (arith, ltb-false k n q))) (omega arith)
 
-channel_typed : (c : Channel) (vs : List Val) → shadow ((channel.the_field).row.own_val ((channel.the_field).into c) vs) → ShapedChannel c
+channel_typed : (c : Channel) (vs : List Val) → shadow ((channel.the_row).own_val c vs) → ShapedChannel c
 channel_typed c vs h =
-    let m = array_typed u8-field 32 (λ x. x < 256) (λ x us g. g.1) c.effect_memory _ h.1.1.1.1.1.0 in
+    let m = array_typed u8 32 (λ x. x < 256) (λ x us g. g.1) c.effect_memory _ h.1.1.1.1.1.0 in
     record { memory = m.0; bytes = some_bytes c.effect_memory 32 m.0 m.1 }
 
 -- a state that a call is given by value
 pub state_typed : (s : State) (vs : List Val) → shadow ((state.the_row).own_val s vs) → Shaped s
 state_typed s vs h =
-    let cs = array_typed channel.the_field 32 ShapedChannel channel_typed s.channels _ h.1.1.1.0 in
+    let cs = array_typed channel.the_row 32 ShapedChannel channel_typed s.channels _ h.1.1.1.0 in
     let p = h.1.1.0.1.1 in
     let place = p.0 in
     let clock = p.1.1.1.0 in
     record {
       channels = cs.0;
       channel = cs.1;
-      infos = (array_typed u8-field 32 (λ x. x < 256) (λ x us g. g.1) s.path.s_info _ p.1.1.1.1.1.0).0;
+      infos = (array_typed u8 32 (λ x. x < 256) (λ x us g. g.1) s.path.s_info _ p.1.1.1.1.1.0).0;
       order = let b : s.path.place.order < 256 = place.1.1.0.1 in omega arith;
       speed = let b : s.path.clock.speed < 256 = clock.1.1.0.1 in omega arith;
     }
@@ -70,5 +71,5 @@ pub opening_typed : (o : Opening) (vs : List Val) → shadow ((opening.the_row).
 opening_typed o vs h =
     record {
       speed = let b : o.speed < 256 = h.1.1.0.1 in omega arith;
-      channels = (array_typed channel_opening.the_field 32 (λ c. Unit) (λ c us g. tt) o.channels _ h.1.1.1.1.1.1.1.1.0).0;
+      channels = (array_typed channel_opening.the_row 32 (λ c. Unit) (λ c us g. tt) o.channels _ h.1.1.1.1.1.1.1.1.0).0;
     }

@@ -93,7 +93,7 @@ module _ (t : Tables) where
 
   -- an ended state gives 0 rows
   pub walk_ended : (n : ℕ) (s : State) → s.path.ended ≡ true → walk t n s ≡ record { records = []; state = s }
-  walk_ended n s e = walk_machines n s ∙ ap (machines t s) (path.walk-ended t.orders t.cells n s.path e) ∙ nothing s
+  walk_ended n s e = walk_machines n s ∙ ap (machines t s) (path.walk_ended t.orders t.cells n s.path e) ∙ nothing s
 
   -- a record for each row that the path machine still has, of n
   pub walk_count : (n : ℕ) (s : State) → length (walk t n s).records ≡ rows_left t.orders t.cells n s.path

@@ -2,7 +2,7 @@
 use channel::state::{Channel, Switches};
 use row_path::machine::Path;
 
-#[derive(Drop)]
+#[derive(Clone, Copy)]
 pub struct State {
     pub path: Path,
     pub channels: [Channel; 32],
@@ -11,7 +11,7 @@ pub struct State {
 }
 
 // Open's answer: 0 and the fresh state, or a rule's number and the blank state.
-#[derive(Drop)]
+#[derive(Clone, Copy)]
 pub struct Opened {
     pub refusal: u8,
     pub state: State,
@@ -19,7 +19,7 @@ pub struct Opened {
 
 // Section's answer: 0, the rows written, whether the tune has ended, and the state; or a rule's number and the state
 // that it was given.
-#[derive(Drop)]
+#[derive(Clone, Copy)]
 pub struct Sectioned {
     pub refusal: u8,
     pub rows: u32,

@@ -114,7 +114,7 @@ fn count_of(row: &[u8]) -> u64
 fn fields_of(row: &[u8]) -> [u64; 9]
     requires { length row.now ≡ 536 }
     ensures value { result ≡ line_fields row.now }
-    ensures result_len_bound { length (spelled result) ≤ 64 }
+    ensures short { length (spelled result) ≤ 64 }
 {
     [
         byte_at(row, 0),

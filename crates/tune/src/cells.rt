@@ -4,7 +4,7 @@ ghost use Rattle.tune.specs.Cells.{row_cells, cell_of};
 
 use crate::numbers::wide;
 
-#[derive(Drop)]
+#[derive(Clone, Copy)]
 pub struct Cell {
     pub note: u8,
     pub instrument: u8,

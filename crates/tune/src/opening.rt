@@ -5,7 +5,7 @@ ghost use Rattle.tune.specs.Opening.{levels_broken, rate_broken, channel_broken,
 use crate::transposition::is_beyond_24;
 
 // What no row changes of a channel.
-#[derive(Drop)]
+#[derive(Clone, Copy)]
 pub struct Fixed {
     pub muted: bool,
     pub right_bank: bool,
@@ -14,13 +14,13 @@ pub struct Fixed {
     pub transposition: i8,
 }
 
-#[derive(Drop)]
+#[derive(Clone, Copy)]
 pub struct ChannelOpening {
     pub pan: u8,
     pub fixed: Fixed,
 }
 
-#[derive(Drop)]
+#[derive(Clone, Copy)]
 pub struct Opening {
     pub speed: u8,
     pub tempo: u8,

@@ -6,7 +6,7 @@ pub fn copy_whole(part: &mut [u8], src: &[u8])
     requires { length part.old ≡ length src.now }
     ensures { part.new ≡ src.now }
 {
-    bytes::copy(src, part);
+    part.copy_from_slice(src);
 }
 
 // Copies the bytes of src from a place on over the whole of part.

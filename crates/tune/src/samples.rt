@@ -4,7 +4,7 @@ ghost use Rattle.tune.specs.Samples.{sample_at, sample_of, is_adlib};
 
 use crate::numbers::{u32_at, wide};
 
-#[derive(Drop)]
+#[derive(Clone, Copy)]
 pub struct Sample {
     pub kind: u8,
     pub volume: u8,
@@ -15,7 +15,7 @@ pub struct Sample {
     pub c5_speed: u32,
 }
 
-#[derive(Drop)]
+#[derive(Clone, Copy)]
 pub enum SampleOption {
     None,
     Some(Sample),

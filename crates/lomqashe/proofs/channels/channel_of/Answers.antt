@@ -1,0 +1,21 @@
+-- `lomqashe::channels::channel_of` meets its contract. Assumes nothing.
+use mathlib.Core.Path.{ap, ◌∙◌}
+use lib.Ieee.{binary32, binary64, of_bits}
+use borrow.Author.Rules.{rules}
+use Rattle.lomqashe.proofs.ChannelRead.{channel_read}
+use Rattle.lomqashe.proofs.channels.channel_of.Goals as goal
+
+pub returns : goal.returns
+returns c =
+    channel_read c.args.part.now
+    (c.single_of.ensures ∙ ap (of_bits binary32) c.u32_at.ensures)
+    (c.single_of-2.ensures ∙ ap (of_bits binary32) c.u32_at-2.ensures)
+    (c.double_of.ensures ∙ ap (of_bits binary64) c.u64_at.ensures)
+    c.delay_of-pending_delay.ensures
+    c.oscillator_of-vibrato.ensures
+    c.oscillator_of-tremolo.ensures
+    c.bytes_at-effect_memory.ensures
+    c.is_set.ensures
+    c.is_set-2.ensures
+    c.is_set-3.ensures
+    c.fixed_of-fixed.ensures

@@ -1,0 +1,17 @@
+-- `lomqashe::channels::channels_of` meets its contract. Assumes nothing.
+use mathlib.Core.List.{[], ◌∷◌, ◌++◌, append-nil}
+use Prim.Native.Nat.{◌+◌, ◌*◌, ◌≤◌, ◌<◌, ◌-◌}
+use lib.ListN.{length, take, drop, length-set}
+use borrow.Author.Rules.{rules}
+use native.Mathlib.Omega.{arith}
+use mathlib.Core.Path.{◌≡◌, refl, ◌∙◌}
+use Rattle.laws.specs.Entries.{pieces}
+use Rattle.laws.proofs.Pieces.{tabulate_put}
+use Rattle.lomqashe.specs.Channels.{channel_of}
+use Rattle.lomqashe.proofs.channels.channels_of.Given as goal
+
+abbrev pub invariant-loop-i : goal.invariant-loop-i
+invariant-loop-i l = (l.i ≤ 32) × (length l.initial.channels ≡ 32) × (length l.channels ≡ 32) × (l.channels ≡ pieces l.i (λ k. channel_of (take 80 (drop (64 + k * 80) l.s)) ∷ []) ++ drop l.i l.initial.channels)
+
+abbrev pub decreases-loop-i : goal.decreases-loop-i
+decreases-loop-i l = 32 - l.i

@@ -1,0 +1,13 @@
+-- `lomqashe::floats::single_of` meets its contract. Assumes nothing.
+use lib.Ieee.{div, of_bits, of_fields, odd}
+use native.Mathlib.Omega.{arith}
+use borrow.Author.Rules.{rules}
+use Rattle.lomqashe.proofs.Nans.{single_no_nan, single_nan}
+use Rattle.lomqashe.proofs.floats.single_of.Goals as goal
+
+pub float_from_bits-result : goal.float_from_bits-result
+float_from_bits-result c = single_no_nan c.args.bits c.if-bits-le-MOST_SINGLE.true
+
+pub returns : goal.returns
+unfolding div of_bits of_fields odd
+returns c = single_nan c.args.bits (omega (arith, c.if-bits-le-MOST_SINGLE.false))

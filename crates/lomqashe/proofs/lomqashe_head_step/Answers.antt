@@ -1,0 +1,23 @@
+-- `lomqashe::lomqashe_head_step` meets its contract. Assumes nothing.
+use mathlib.Core.Path.{◌∙◌}
+use borrow.Author.Rules.{rules}
+use Rattle.lomqashe.proofs.Answered.{command_wrong, head_stepped}
+use Rattle.lomqashe.proofs.lomqashe_head_step.Goals as goal
+
+pub returns-then-command-gt255 : goal.returns-then-command-gt255
+returns-then-command-gt255 c =
+    let q = command_wrong _ _ _ c.if-command-gt255.true in
+    record { answer = q.0; written = q.1 }
+
+pub returns-in-Done : goal.returns-in-Done
+returns-in-Done c =
+    let s = c in
+    let q = head_stepped _ _ _ c.in-Done.is s.if-command-gt255.false s.step.ensures.answer s.step.ensures.written in
+    record { answer = q.0; written = q.1 }
+
+pub returns-in-Refused : goal.returns-in-Refused
+returns-in-Refused c =
+    let r = c in
+    let s = r in
+    let h = head_stepped _ _ _ r.in-Refused.is s.if-command-gt255.false s.step.ensures.answer s.step.ensures.written in
+    record { answer = c.refused.ensures ∙ h.0; written = h.1 }

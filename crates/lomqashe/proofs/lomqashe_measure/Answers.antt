@@ -1,0 +1,24 @@
+-- `lomqashe::lomqashe_measure` meets its contract. Assumes nothing.
+use mathlib.Core.Path.{◌∙◌}
+use borrow.Author.Rules.{rules}
+use Rattle.lomqashe.proofs.Answered.{measure_wrong, measure_given}
+use Rattle.lomqashe.proofs.lomqashe_measure.Goals as goal
+
+pub returns-then-counts-ne12 : goal.returns-then-counts-ne12
+returns-then-counts-ne12 c =
+    let q = measure_wrong c.args.file.now c.args.counts.now c.if-counts-ne12.true in
+    record { answer = q.0; written = q.1 }
+
+pub returns-in-Found : goal.returns-in-Found
+returns-in-Found c =
+    let s = c in
+    let m = c.measure in
+    let g = measure_given s.args.file.now s.args.counts.now c.in-Found.is c.if-counts-ne12.false m.ensures.value m.ensures.says in
+    record { answer = g.0; written = c.put_counts.ensures ∙ g.1 }
+
+pub returns-in-Refused : goal.returns-in-Refused
+returns-in-Refused c =
+    let s = c in
+    let m = c.measure in
+    let g = measure_given s.args.file.now s.args.counts.now c.in-Refused.is c.if-counts-ne12.false m.ensures.value m.ensures.says in
+    record { answer = c.refused.ensures ∙ g.0; written = g.1 }

@@ -1,0 +1,11 @@
+-- `lomqashe::opening::fixed_at` meets its contract. Assumes nothing.
+use mathlib.Core.Path.{◌∙◌}
+use mir.Syntax.{w8}
+use mir.Facts.{to_z-of_z}
+use borrow.Author.Rules.{rules}
+use Rattle.lomqashe.specs.Openings.{fixed_at}
+use Rattle.lomqashe.proofs.opening.fixed_at.Goals as goal
+
+pub returns : goal.returns
+unfolding fixed_at
+returns c = simp (c.is_set.ensures, c.is_set-2.ensures, c.is_set-3.ensures, to_z-of_z {w = w8} (record { sfits = c.signed_of.type_inv }) ∙ c.signed_of.ensures)

@@ -1,0 +1,8 @@
+-- `lomqashe::opening::opening_of` meets its contract. Assumes nothing.
+use borrow.Author.Rules.{rules}
+use Rattle.lomqashe.specs.Openings.{opening_at}
+use Rattle.lomqashe.proofs.opening.opening_of.Goals as goal
+
+pub returns : goal.returns
+unfolding opening_at
+returns c = simp (c.channels_of-channels.ensures, c.u32_at.ensures, c.is_set.ensures, c.is_set-2.ensures)

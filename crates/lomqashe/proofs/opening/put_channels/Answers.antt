@@ -1,0 +1,21 @@
+-- `lomqashe::opening::put_channels` meets its contract. Assumes nothing.
+use Prim.Native.Nat.{◌+◌, ◌*◌, ◌≤◌, ◌-◌}
+use lib.ListN.{length}
+use borrow.Author.Rules.{rules}
+use native.Mathlib.Omega.{arith}
+use mathlib.Core.Path.{◌≡◌, refl, ◌∙◌}
+use Rattle.laws.proofs.Parts.{put_as}
+use Rattle.laws.proofs.Turns.{Written, none_written, one_more, each_written}
+use Rattle.lomqashe.specs.Openings.{setting_bytes}
+use Rattle.lomqashe.proofs.opening.put_channels.Goals as goal
+
+pub loop-i-init : goal.loop-i-init
+loop-i-init c = (omega arith, search rules, refl, none_written setting_bytes 16 4 _ _ (omega arith))
+
+pub loop-i-preserved : goal.loop-i-preserved
+loop-i-preserved c =
+    let b = c in
+    let l = b.loop-i in
+    let s = b.args in
+    let put = put_as l.out (16 + l.i * 4) 4 (search rules) b.channel_bytes-bytes.ensures c.put_at.ensures in
+    (omega arith, l.invariant.1, search rules, one_more setting_bytes 16 4 s.t2 s.out.now l.i _ l.out l.invariant.3 (omega arith) (omega arith) (search rules) put)

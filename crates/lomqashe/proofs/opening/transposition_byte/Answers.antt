@@ -1,0 +1,16 @@
+-- `lomqashe::opening::transposition_byte` meets its contract. Assumes nothing.
+use mathlib.Core.Path.{ap, ◌∙◌}
+use mir.Syntax.{w8}
+use mir.Val.{SFits}
+use mir.Facts.{to_z-of_z}
+use borrow.Author.Rules.{rules}
+use Rattle.tune.specs.Transposition.{signed_byte}
+use Rattle.lomqashe.specs.Openings.{transposition_byte}
+use Rattle.lomqashe.proofs.opening.transposition_byte.Goals as goal
+
+pub returns : goal.returns
+unfolding transposition_byte
+returns c =
+    let x = c.args.c in
+    let f : SFits w8 x.fixed.transposition = record { sfits = c.struct_told-1.given.1.1.1.0.1 } in
+    c.signed_byte.ensures ∙ ap signed_byte (to_z-of_z f)

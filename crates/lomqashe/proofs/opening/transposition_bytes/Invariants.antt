@@ -1,0 +1,17 @@
+-- `lomqashe::opening::transposition_bytes` meets its contract. Assumes nothing.
+use Prim.Native.Nat.{◌≤◌, ◌<◌, ◌-◌}
+use mathlib.Core.Path.{◌≡◌, refl}
+use mathlib.Core.List.{map}
+use native.Mathlib.Omega.{arith}
+use lib.ListN.{take, length, length-set}
+use borrow.Author.Rules.{rules}
+use Rattle.laws.proofs.Maps.{filled_next, filled_done}
+use Rattle.lomqashe.specs.Openings.{transposition_byte}
+use Rattle.lomqashe.proofs.opening.transposition_bytes.Given as goal
+
+abbrev pub invariant-loop-i : goal.invariant-loop-i
+invariant-loop-i l =
+    (l.i ≤ 32) × (length l.channels ≡ 32) × (length l.bytes ≡ 32) × (take l.i l.bytes ≡ map transposition_byte (take l.i l.channels))
+
+abbrev pub decreases-loop-i : goal.decreases-loop-i
+decreases-loop-i l = 32 - l.i

@@ -1,0 +1,8 @@
+-- `lomqashe::state::state_of` meets its contract. Assumes nothing.
+use borrow.Author.Rules.{rules}
+use Rattle.lomqashe.specs.States.{state_of}
+use Rattle.lomqashe.proofs.state.state_of.Goals as goal
+
+pub returns : goal.returns
+unfolding state_of
+returns c = simp (c.is_set.ensures, c.is_set-2.ensures, c.path_of.ensures, c.channels_of.ensures)

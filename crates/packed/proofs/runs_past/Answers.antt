@@ -1,0 +1,21 @@
+-- `packed::runs_past` meets its contract. The loop's invariant: the end from here is the end from the first byte. The
+-- measure is what is left of the rows and the file. Assumes nothing.
+use mathlib.Core.Path.{ap}
+use lib.Dec.{ltb}
+use lib.ListN.{length}
+use Rattle.packed.specs.Unpacking.{runs_past}
+use Rattle.packed.proofs.Walks.{ending_start, ending_next, ending_done, walk_less}
+use Rattle.packed.proofs.runs_past.Goals as goal
+
+pub loop-row-init : goal.loop-row-init
+loop-row-init c = ending_start _ _
+
+pub loop-row-smaller : goal.loop-row-smaller
+loop-row-smaller c = walk_less _ _ _ c.loop-row-test.true c.next_place-p.ensures
+
+pub loop-row-preserved : goal.loop-row-preserved
+loop-row-preserved c = ending_next c.loop-row.invariant c.loop-row-test.true c.next_place-p.ensures
+
+pub returns : goal.returns
+unfolding runs_past
+returns c = ap (ltb (length c.args.file.now)) (ending_done c.loop-row.invariant c.loop-row-test.false)

@@ -1,0 +1,37 @@
+-- `s3m::instruments::read_samples` meets its contract. Assumes nothing.
+use borrow.Author.Rules.{rules}
+use native.Mathlib.Omega.{arith}
+use mathlib.Core.Path.{refl, ◌∙◌, ap}
+use Rattle.laws.specs.Entries.{pieces}
+use Rattle.laws.proofs.Tables.{some_absent}
+use Rattle.laws.proofs.Pieces.{pieces_grow, pieces_done}
+use Rattle.s3m.specs.Layout.{pointer_at}
+use Rattle.s3m.specs.Instruments.{instrument_past, instruments_past, instrument_sample, samples_of}
+use Rattle.s3m.proofs.Samples.{length-instrument}
+use Rattle.s3m.proofs.instruments.read_samples.Goals as goal
+
+pub loop-k-init : goal.loop-k-init
+unfolding pieces
+loop-k-init c = (omega arith, search rules, refl)
+
+pub put_instrument-requires : goal.put_instrument-requires
+unfolding instruments_past
+put_instrument-requires c =
+    let s = c in
+    let u = c.u16_at-pointer.ensures in
+    let e = some_absent (λ i. instrument_past s.args.file.now (pointer_at s.args.file.now s.args.list i)) s.args.n c.loop-k.k c.loop-k-test.true s.requires.there in
+    (omega (arith, c.put_instrument-arg-1.given.2), u.1, ap (instrument_past s.args.file.now) u.0 ∙ e)
+
+pub loop-k-preserved : goal.loop-k-preserved
+loop-k-preserved c =
+    let s = c in
+    let l = c.loop-k in
+    let sample = c.put_instrument.ensures ∙ ap (instrument_sample s.args.file.now) c.u16_at-pointer.ensures.0 in
+    (omega arith, search rules, pieces_grow (λ i. instrument_sample s.args.file.now (pointer_at s.args.file.now s.args.list i)) 20 (λ i. length-instrument _ _) s.args.samples.now l.k l.invariant.2 sample)
+
+pub returns : goal.returns
+unfolding samples_of
+returns c =
+    let s = c in
+    let l = c.loop-k in
+    pieces_done (λ i. instrument_sample s.args.file.now (pointer_at s.args.file.now s.args.list i)) 20 s.args.samples.now l.k s.args.n (omega arith) (omega arith) l.invariant.2

@@ -1,0 +1,28 @@
+-- `s3m::patterns::read_cells` meets its contract. Assumes nothing.
+use borrow.Author.Rules.{rules}
+use native.Mathlib.Omega.{arith}
+use mathlib.Core.Path.{refl, ◌∙◌, ap}
+use Rattle.laws.specs.Entries.{pieces}
+use Rattle.laws.proofs.Pieces.{pieces_grow, pieces_done}
+use Rattle.s3m.specs.Layout.{pointer_at}
+use Rattle.s3m.specs.Patterns.{pattern_cells, cells_of}
+use Rattle.s3m.proofs.Cells.{length-pattern}
+use Rattle.s3m.proofs.patterns.read_cells.Goals as goal
+
+pub loop-k-init : goal.loop-k-init
+unfolding pieces
+loop-k-init c = (omega arith, search rules, refl)
+
+pub loop-k-preserved : goal.loop-k-preserved
+loop-k-preserved c =
+    let s = c in
+    let l = c.loop-k in
+    let sample = c.put_pattern.ensures ∙ ap (pattern_cells s.args.file.now) c.u16_at-pointer.ensures.0 in
+    (omega arith, search rules, pieces_grow (λ i. pattern_cells s.args.file.now (pointer_at s.args.file.now s.args.list i)) 10240 (λ i. length-pattern _ _) s.args.cells.now l.k l.invariant.2 sample)
+
+pub returns : goal.returns
+unfolding cells_of
+returns c =
+    let s = c in
+    let l = c.loop-k in
+    pieces_done (λ i. pattern_cells s.args.file.now (pointer_at s.args.file.now s.args.list i)) 10240 s.args.cells.now l.k s.args.n (omega arith) (omega arith) l.invariant.2
