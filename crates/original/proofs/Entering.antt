@@ -145,7 +145,7 @@ module _ (t : Tables) (s : State) (sized : Sized t.orders t.cells t.samples) (by
   one_same : (j : ℕ) → j < 32 → get_or after.channels j «Channel::default» ≡ get_or (rust_channels (channels_entered row ys t.samples w g cs) ys) j «Channel::default»
   unfolding channel_at song_of
   one_same j h =
-      o.passed-by j h h
+      o.passed_by j h h
       ∙ ap (λ (x : ℕ). rust_channel (channel_entered (get_or cs j «Channel::default») (cell_of row j) x t.samples w g).channel x) (sym (o.heard-info j h h))
       ∙ ap (λ (c : Channel). rust_channel c (get_or ys j 0)) (sym (channel_at_lem row ys t.samples w g cs j «Channel::default» (omega (arith, full))))
       ∙ sym (rust_at (channels_entered row ys t.samples w g cs) ys j (let z = channels_length row ys t.samples w g cs in omega (arith, full)))

@@ -173,7 +173,7 @@ module _ (m : Song) (samples : List ℕ) (named : (n : ℕ) → lookup m n ≡ s
           wide = length-set o.infos-now n (next n) ∙ o.wide;
           heard-info = λ j b q. here_or j n (info_here j) (λ z. get_or-set_other o.infos-now n j (next n) 0 z ∙ o.heard-info j (omega arith) q);
           unheard-info = λ j b q. get_or-set_other o.infos-now n j (next n) 0 (λ e. omega arith) ∙ o.unheard-info j (omega arith) q;
-          passed_by = λ j b q. here_or j n (new_here j) (λ z. get_or-set_other l.channels n j tick.ch «Channel::default» z ∙ o.passed-by j (omega arith) q);
+          passed_by = λ j b q. here_or j n (new_here j) (λ z. get_or-set_other l.channels n j tick.ch «Channel::default» z ∙ o.passed_by j (omega arith) q);
           ahead = λ j b q. get_or-set_other l.channels n j tick.ch «Channel::default» (λ e. omega arith) ∙ o.ahead j (omega arith) q;
           scan = scan_next;
           volume = volume_next;

@@ -1,5 +1,4 @@
 -- `lomqashe::count_bytes` meets its contract. Assumes nothing.
-use borrow.Author.Rules.{rules}
 use Rattle.tune.specs.Numbers.{bytes_of}
 use Rattle.lomqashe.specs.Answers.{count_bytes}
 use Rattle.lomqashe.proofs.count_bytes.Goals as goal

@@ -1,6 +1,5 @@
 -- `lomqashe::lomqashe_head_step` meets its contract. Assumes nothing.
 use mathlib.Core.Path.{◌∙◌}
-use borrow.Author.Rules.{rules}
 use Rattle.lomqashe.proofs.Answered.{command_wrong, head_stepped}
 use Rattle.lomqashe.proofs.lomqashe_head_step.Goals as goal
 

@@ -1,6 +1,5 @@
 -- `lomqashe::lomqashe_measure` meets its contract. Assumes nothing.
 use mathlib.Core.Path.{◌∙◌}
-use borrow.Author.Rules.{rules}
 use Rattle.lomqashe.proofs.Answered.{measure_wrong, measure_given}
 use Rattle.lomqashe.proofs.lomqashe_measure.Goals as goal
 

@@ -1,5 +1,4 @@
 -- `lomqashe::lomqashe_open` meets its contract. Assumes nothing.
-use borrow.Author.Rules.{rules}
 use Rattle.section.specs.Tables.{lent}
 use Rattle.section.specs.Open.{open_rule, open_of}
 use Rattle.lomqashe.specs.Answers.{open_refusal}
@@ -27,5 +26,5 @@ returns c =
     let o = e.opening_of in
     let a = e.args in
     let w = c.answer_opened.ensures in
-    let g = opened_bytes (open_rule (lent a.orders.now a.cells.now a.samples.now)) a.opening.now a.state.now e.if-opening-ne176.false e.if-state-ne2624.false o.result e.«open».result o.ensures e.«open».ensures.0 w.answer w.written.0 w.written.1 in
+    let g = opened_bytes (open_rule (lent a.orders.now a.cells.now a.samples.now)) a.opening.now a.state.now e.if-opening-ne176.false e.if-state-ne2624.false o.result e.«open».result o.ensures e.«open».ensures.answer w.answer w.written w.kept in
     record { answer = g.answer; written = g.written; kept = g.kept }

@@ -1,5 +1,4 @@
 -- `lomqashe::lomqashe_open_closed` meets its contract. Assumes nothing.
-use borrow.Author.Rules.{rules}
 use Rattle.section.specs.Tables.{lent}
 use Rattle.closed.specs.Answers.{open_closed_rule, open_closed_of}
 use Rattle.lomqashe.specs.Answers.{open_closed_refusal}
@@ -27,5 +26,5 @@ returns c =
     let o = e.opening_of in
     let a = e.args in
     let w = c.answer_opened.ensures in
-    let g = opened_bytes (open_closed_rule (lent a.orders.now a.cells.now a.samples.now)) a.opening.now a.state.now e.if-opening-ne176.false e.if-state-ne2624.false o.result e.open_closed.result o.ensures e.open_closed.ensures.answer w.answer w.written.0 w.written.1 in
+    let g = opened_bytes (open_closed_rule (lent a.orders.now a.cells.now a.samples.now)) a.opening.now a.state.now e.if-opening-ne176.false e.if-state-ne2624.false o.result e.open_closed.result o.ensures e.open_closed.ensures.answer w.answer w.written w.kept in
     record { answer = g.answer; written = g.written; kept = g.kept; ends = closed_bytes_end (lent a.orders.now a.cells.now a.samples.now) a.opening.now a.state.now _ g.kept }

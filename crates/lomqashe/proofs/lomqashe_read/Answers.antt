@@ -1,7 +1,6 @@
 -- `lomqashe::lomqashe_read` meets its contract. Assumes nothing.
 use mathlib.Core.Path.{refl, ap, ◌∙◌}
 use native.Mathlib.Omega.{arith}
-use borrow.Author.Rules.{rules}
 use Rattle.laws.specs.Refusals.{Said}
 use Rattle.tune.specs.declared.opening.Opening.{Opening}
 use Rattle.lomqashe.specs.Answers.{answer_of}
@@ -21,4 +20,4 @@ returns c =
     let e = read_given a.file.now a.orders.now a.samples.now a.cells.now a.opening.now c.if-opening-ne176.false in
     let g = c.read-given.ensures in
     let o = c.answer_read.ensures.written ∙ read_opening a.file.now a.rate _ a.opening.now c.read-given.result g.value in
-    rw e record { answer = c.answer_read.ensures.answer ∙ ap (λ (s : Said Opening). answer_of s.number 0) g.says.0; orders = g.says.1.0; samples = g.says.1.1.0; cells = g.says.1.1.1; opening = o; kept = opening_said a.file.now a.rate _ a.opening.now f.rate.fits o }
+    rw e record { answer = c.answer_read.ensures.answer ∙ ap (λ (s : Said Opening). answer_of s.number 0) g.says; orders = g.orders_after; samples = g.samples_after; cells = g.cells_after; opening = o; kept = opening_said a.file.now a.rate _ a.opening.now f.rate.fits o }

@@ -1,7 +1,6 @@
 -- `lomqashe::channels::channel_of` meets its contract. Assumes nothing.
 use mathlib.Core.Path.{ap, ◌∙◌}
 use lib.Ieee.{binary32, binary64, of_bits}
-use borrow.Author.Rules.{rules}
 use Rattle.lomqashe.proofs.ChannelRead.{channel_read}
 use Rattle.lomqashe.proofs.channels.channel_of.Goals as goal
 

@@ -1,10 +1,8 @@
 -- `lomqashe::channels::channels_of` meets its contract. Assumes nothing.
-use mathlib.Core.List.{[], ◌∷◌, ◌++◌, append-nil}
-use Prim.Native.Nat.{◌+◌, ◌*◌, ◌≤◌, ◌<◌, ◌-◌}
-use lib.ListN.{length, take, drop, length-set}
-use borrow.Author.Rules.{rules}
+use Prim.Native.Nat.{◌+◌, ◌*◌, ◌<◌, ◌-◌}
+use lib.ListN.{take, drop, length-set}
 use native.Mathlib.Omega.{arith}
-use mathlib.Core.Path.{◌≡◌, refl, ◌∙◌}
+use mathlib.Core.Path.{◌≡◌, refl}
 use Rattle.laws.specs.Entries.{pieces}
 use Rattle.laws.proofs.Pieces.{tabulate_put}
 use Rattle.lomqashe.specs.Channels.{channel_of}

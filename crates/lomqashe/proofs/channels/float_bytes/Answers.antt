@@ -1,5 +1,4 @@
 -- `lomqashe::channels::float_bytes` meets its contract. Assumes nothing.
-use borrow.Author.Rules.{rules}
 use Rattle.tune.specs.Numbers.{bytes_of}
 use Rattle.lomqashe.specs.Channels.{float_bytes}
 use Rattle.lomqashe.proofs.channels.float_bytes.Goals as goal

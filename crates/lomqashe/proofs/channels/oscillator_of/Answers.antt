@@ -1,5 +1,4 @@
 -- `lomqashe::channels::oscillator_of` meets its contract. Assumes nothing.
-use borrow.Author.Rules.{rules}
 use Rattle.lomqashe.specs.Channels.{oscillator_of}
 use Rattle.lomqashe.proofs.channels.oscillator_of.Goals as goal
 

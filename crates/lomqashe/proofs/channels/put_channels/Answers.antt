@@ -1,10 +1,8 @@
 -- `lomqashe::channels::put_channels` meets its contract. Assumes nothing.
-use Prim.Native.Nat.{◌≤◌, ◌-◌}
-use lib.ListN.{length}
 use borrow.Author.Rules.{rules}
 use native.Mathlib.Omega.{arith}
-use mathlib.Core.Path.{◌≡◌, refl}
-use Rattle.laws.proofs.Turns.{Written, none_written, one_more, all_written}
+use mathlib.Core.Path.{refl}
+use Rattle.laws.proofs.Turns.{none_written, one_more}
 use Rattle.lomqashe.specs.Channels.{channel_bytes}
 use Rattle.lomqashe.proofs.channels.put_channels.Goals as goal
 
@@ -15,4 +13,4 @@ pub loop-i-preserved : goal.loop-i-preserved
 loop-i-preserved c =
     let l = c.loop-i in
     let s = c.args in
-    (omega arith, l.invariant.1, search rules, one_more channel_bytes 64 80 s.t2 s.state.now l.i _ l.state l.invariant.3 (omega arith) (omega arith) (search rules) c.put_channel.ensures)
+    (omega arith, l.invariant.1, search rules, one_more channel_bytes 64 80 s.channels s.state.now l.i _ l.state l.invariant.3 (omega arith) (omega arith) (search rules) c.put_channel.ensures)

@@ -1,10 +1,8 @@
 -- `lomqashe::channels::put_channels` meets its contract. Assumes nothing.
 use Prim.Native.Nat.{◌≤◌, ◌-◌}
 use lib.ListN.{length}
-use borrow.Author.Rules.{rules}
-use native.Mathlib.Omega.{arith}
-use mathlib.Core.Path.{◌≡◌, refl}
-use Rattle.laws.proofs.Turns.{Written, none_written, one_more, all_written}
+use mathlib.Core.Path.{◌≡◌}
+use Rattle.laws.proofs.Turns.{Written}
 use Rattle.lomqashe.specs.Channels.{channel_bytes}
 use Rattle.lomqashe.proofs.channels.put_channels.Given as goal
 

@@ -1,7 +1,6 @@
 -- `lomqashe::floats::double_of` meets its contract. Assumes nothing.
 use lib.Ieee.{div, of_bits, of_fields, odd}
 use native.Mathlib.Omega.{arith}
-use borrow.Author.Rules.{rules}
 use Rattle.lomqashe.proofs.Nans.{double_no_nan, double_nan}
 use Rattle.lomqashe.proofs.floats.double_of.Goals as goal
 

@@ -1,9 +1,7 @@
 -- `lomqashe::floats::single_bits` meets its contract. Assumes nothing.
-use mathlib.Core.Path.{sym, subst, ap}
+use mathlib.Core.Path.{ap}
 use lib.Ieee.{to_bits, binary32}
-use borrow.Author.Rules.{rules}
-use lib.Dec.{T}
-use Rattle.lomqashe.proofs.Nans.{equal_no_nan, unequal}
+use Rattle.lomqashe.proofs.Nans.{unequal}
 use Rattle.lomqashe.proofs.floats.single_bits.Goals as goal
 
 pub returns : goal.returns

@@ -1,7 +1,6 @@
 -- `lomqashe::floats::single_of` meets its contract. Assumes nothing.
 use lib.Ieee.{div, of_bits, of_fields, odd}
 use native.Mathlib.Omega.{arith}
-use borrow.Author.Rules.{rules}
 use Rattle.lomqashe.proofs.Nans.{single_no_nan, single_nan}
 use Rattle.lomqashe.proofs.floats.single_of.Goals as goal
 

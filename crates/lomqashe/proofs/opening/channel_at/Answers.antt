@@ -1,5 +1,4 @@
 -- `lomqashe::opening::channel_at` meets its contract. Assumes nothing.
-use borrow.Author.Rules.{rules}
 use Rattle.lomqashe.specs.Openings.{setting_at}
 use Rattle.lomqashe.proofs.opening.channel_at.Goals as goal
 

@@ -1,5 +1,4 @@
 -- `lomqashe::opening::channel_bytes` meets its contract. Assumes nothing.
-use borrow.Author.Rules.{rules}
 use Rattle.lomqashe.specs.Openings.{setting_bytes}
 use Rattle.lomqashe.proofs.opening.channel_bytes.Goals as goal
 

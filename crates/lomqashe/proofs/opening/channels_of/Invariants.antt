@@ -1,12 +1,9 @@
 -- `lomqashe::opening::channels_of` meets its contract. Assumes nothing.
-use mathlib.Core.List.{[], ◌∷◌, ◌++◌, append-nil}
-use Prim.Native.Nat.{◌+◌, ◌*◌, ◌≤◌, ◌<◌, ◌-◌}
-use lib.ListN.{length, drop, length-set}
-use borrow.Author.Rules.{rules}
-use native.Mathlib.Omega.{arith}
-use mathlib.Core.Path.{◌≡◌, refl, ◌∙◌}
+use mathlib.Core.List.{[], ◌∷◌, ◌++◌}
+use Prim.Native.Nat.{◌+◌, ◌*◌, ◌≤◌, ◌-◌}
+use lib.ListN.{length, drop}
+use mathlib.Core.Path.{◌≡◌}
 use Rattle.laws.specs.Entries.{pieces}
-use Rattle.laws.proofs.Pieces.{tabulate_put}
 use Rattle.lomqashe.specs.Openings.{setting_at}
 use Rattle.lomqashe.proofs.opening.channels_of.Given as goal
 

@@ -2,7 +2,6 @@
 use mathlib.Core.Path.{◌∙◌}
 use mir.Syntax.{w8}
 use mir.Facts.{to_z-of_z}
-use borrow.Author.Rules.{rules}
 use Rattle.lomqashe.specs.Openings.{fixed_at}
 use Rattle.lomqashe.proofs.opening.fixed_at.Goals as goal
 

@@ -1,5 +1,4 @@
 -- `lomqashe::opening::opening_of` meets its contract. Assumes nothing.
-use borrow.Author.Rules.{rules}
 use Rattle.lomqashe.specs.Openings.{opening_at}
 use Rattle.lomqashe.proofs.opening.opening_of.Goals as goal
 

@@ -1,11 +1,10 @@
 -- `lomqashe::opening::put_channels` meets its contract. Assumes nothing.
-use Prim.Native.Nat.{◌+◌, ◌*◌, ◌≤◌, ◌-◌}
-use lib.ListN.{length}
+use Prim.Native.Nat.{◌+◌, ◌*◌}
 use borrow.Author.Rules.{rules}
 use native.Mathlib.Omega.{arith}
-use mathlib.Core.Path.{◌≡◌, refl, ◌∙◌}
+use mathlib.Core.Path.{refl}
 use Rattle.laws.proofs.Parts.{put_as}
-use Rattle.laws.proofs.Turns.{Written, none_written, one_more, each_written}
+use Rattle.laws.proofs.Turns.{none_written, one_more}
 use Rattle.lomqashe.specs.Openings.{setting_bytes}
 use Rattle.lomqashe.proofs.opening.put_channels.Goals as goal
 
@@ -18,4 +17,4 @@ loop-i-preserved c =
     let l = b.loop-i in
     let s = b.args in
     let put = put_as l.out (16 + l.i * 4) 4 (search rules) b.channel_bytes-bytes.ensures c.put_at.ensures in
-    (omega arith, l.invariant.1, search rules, one_more setting_bytes 16 4 s.t2 s.out.now l.i _ l.out l.invariant.3 (omega arith) (omega arith) (search rules) put)
+    (omega arith, l.invariant.1, search rules, one_more setting_bytes 16 4 s.channels s.out.now l.i _ l.out l.invariant.3 (omega arith) (omega arith) (search rules) put)

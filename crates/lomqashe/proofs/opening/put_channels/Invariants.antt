@@ -1,11 +1,8 @@
 -- `lomqashe::opening::put_channels` meets its contract. Assumes nothing.
-use Prim.Native.Nat.{◌+◌, ◌*◌, ◌≤◌, ◌-◌}
+use Prim.Native.Nat.{◌≤◌, ◌-◌}
 use lib.ListN.{length}
-use borrow.Author.Rules.{rules}
-use native.Mathlib.Omega.{arith}
-use mathlib.Core.Path.{◌≡◌, refl, ◌∙◌}
-use Rattle.laws.proofs.Parts.{put_as}
-use Rattle.laws.proofs.Turns.{Written, none_written, one_more, each_written}
+use mathlib.Core.Path.{◌≡◌}
+use Rattle.laws.proofs.Turns.{Written}
 use Rattle.lomqashe.specs.Openings.{setting_bytes}
 use Rattle.lomqashe.proofs.opening.put_channels.Given as goal
 

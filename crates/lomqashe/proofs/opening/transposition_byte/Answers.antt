@@ -3,7 +3,6 @@ use mathlib.Core.Path.{ap, ◌∙◌}
 use mir.Syntax.{w8}
 use mir.Val.{SFits}
 use mir.Facts.{to_z-of_z}
-use borrow.Author.Rules.{rules}
 use Rattle.tune.specs.Transposition.{signed_byte}
 use Rattle.lomqashe.specs.Openings.{transposition_byte}
 use Rattle.lomqashe.proofs.opening.transposition_byte.Goals as goal

@@ -1,11 +1,8 @@
 -- `lomqashe::opening::transposition_bytes` meets its contract. Assumes nothing.
-use Prim.Native.Nat.{◌≤◌, ◌<◌, ◌-◌}
-use mathlib.Core.Path.{◌≡◌, refl}
+use Prim.Native.Nat.{◌≤◌, ◌-◌}
+use mathlib.Core.Path.{◌≡◌}
 use mathlib.Core.List.{map}
-use native.Mathlib.Omega.{arith}
-use lib.ListN.{take, length, length-set}
-use borrow.Author.Rules.{rules}
-use Rattle.laws.proofs.Maps.{filled_next, filled_done}
+use lib.ListN.{take, length}
 use Rattle.lomqashe.specs.Openings.{transposition_byte}
 use Rattle.lomqashe.proofs.opening.transposition_bytes.Given as goal
 

@@ -1,5 +1,4 @@
 -- `lomqashe::state::path_of` meets its contract. Assumes nothing.
-use borrow.Author.Rules.{rules}
 use Rattle.lomqashe.specs.States.{path_of}
 use Rattle.lomqashe.proofs.state.path_of.Goals as goal
 

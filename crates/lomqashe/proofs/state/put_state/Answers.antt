@@ -3,7 +3,6 @@ use mathlib.Core.Path.{◌≡◌, refl, sym, ap, ◌∙◌}
 use mathlib.Core.List.{◌++◌}
 use native.Mathlib.Omega.{arith}
 use lib.ListN.{length, length-append}
-use borrow.Author.Rules.{rules}
 use Rattle.laws.proofs.Parts.{put_as, put_next}
 use Rattle.lomqashe.specs.States.{head_bytes, state_bytes}
 use Rattle.lomqashe.proofs.StateKept.{state_kept}
@@ -22,7 +21,10 @@ returns c =
     let x = head_bytes a.args.s in
     let y = a.args.s.path.s_info in
     let n : length x ≡ 32 = ap length (sym h.head_bytes-head.ensures) ∙ p1.put_block.ensures.1 in
-    let k : length y ≡ 32 = p2.put_block-2.ensures.1 in record { written = behind l (x ++ y) _ 64 (length-append x y ∙ rw (n, k))
+    let k : length y ≡ 32 = p2.put_block-2.ensures.1 in record {
+      written = behind l (x ++ y) _ 64 (length-append x y ∙ rw (n, k))
           (put_next l x {b = y} 0 32 32 64 refl (omega arith) n k refl
           (put_as l 0 32 p1.put_block.ensures.1 h.head_bytes-head.ensures p1.put_block.ensures.0) p2.put_block-2.ensures.0)
-          c.put_channels.ensures; kept = state_kept _ (state_given _ _ a.well_formed.1.0) }
+          c.put_channels.ensures;
+      kept = state_kept _ (state_given _ _ a.well_formed.1.0);
+    }

@@ -1,5 +1,4 @@
 -- `lomqashe::state::state_of` meets its contract. Assumes nothing.
-use borrow.Author.Rules.{rules}
 use Rattle.lomqashe.specs.States.{state_of}
 use Rattle.lomqashe.proofs.state.state_of.Goals as goal
 
