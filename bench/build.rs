@@ -1,4 +1,4 @@
-//! Links the path alone beside the library: what `rt staticlib path_alone` writes.
+//! Links the path alone beside the library: what `./prove staticlib path_alone` writes.
 
 use std::path::PathBuf;
 use std::{env, process};
@@ -10,7 +10,7 @@ fn main() {
     println!("cargo::rerun-if-changed={}", archive.display());
     if !archive.is_file() {
         eprintln!(
-            "bench: {} is not there; run `rt staticlib path_alone` at the repository's root",
+            "bench: {} is not there; run `./prove staticlib path_alone` at the repository's root",
             archive.display()
         );
         process::exit(1);

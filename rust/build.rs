@@ -1,4 +1,4 @@
-//! Links the archive that `rt staticlib lomqashe` writes: the one in the folder that `LOMQASHE_ARCHIVE` names, or beside
+//! Links the archive that `./prove staticlib lomqashe` writes: the one in the folder that `LOMQASHE_ARCHIVE` names, or beside
 //! this file, or else in the repository's target/staticlib.
 
 use std::ffi::OsString;
@@ -51,7 +51,7 @@ fn own_folder() -> PathBuf {
     let folder = home.parent().unwrap_or(Path::new("/")).join("target/staticlib");
     if !folder.join(ARCHIVE).is_file() {
         stop(&format!(
-            "{ARCHIVE} is neither in {} nor in {}: run `rt staticlib lomqashe` at the repository's root, or name a folder \
+            "{ARCHIVE} is neither in {} nor in {}: run `./prove staticlib lomqashe` at the repository's root, or name a folder \
              that has it in LOMQASHE_ARCHIVE",
             home.display(),
             folder.display()

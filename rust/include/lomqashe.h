@@ -2,7 +2,7 @@
  * lomqashe.h - the row sheet of a Scream Tracker 3 tune
  *
  * Eleven functions over numbers and bytes, in the archive target/staticlib/liblomqashe.a that
- * `rt staticlib lomqashe` writes. Each result, and every byte written, is proved equal to a
+ * `./prove staticlib lomqashe` writes. Each result, and every byte written, is proved equal to a
  * definition that the function's contract in crates/lomqashe/src/lib.rt names, for all inputs: no
  * length and no value is a mistake that a function doesn't answer. They keep nothing between calls,
  * allocate nothing, call nothing but memcpy and memset, and may be called from several threads at
