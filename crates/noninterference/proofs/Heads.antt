@@ -24,7 +24,7 @@ use Rattle.noninterference.specs.Made.{call_of, MadeOn, read_back}
 use Rattle.noninterference.specs.Sheets.{sheet_of}
 use Rattle.noninterference.specs.Heads.{Drive, calls_on, HeadsKept, HeadsHoweverRevoiced}
 use Rattle.noninterference.proofs.Sheets.{record_length, entry_alike, count_alike}
-use Rattle.noninterference.proofs.Theorem.{channels_kept_lem, made_kept, opened_lent}
+use Rattle.noninterference.proofs.Theorem.{channels_kept, made_kept, opened_lent}
 
 -- a record's start stands in its head
 start_in : (r : List ℕ) → length r ≡ 536 → row_start r ≡ take 8 (drop 8 (head_in r))
@@ -73,7 +73,7 @@ module _ (chosen : ℕ → Bool) (A B : Tune) (cs ds : List Call) (xs ys : List 
 -- of the mask.
 pub heads_kept : (chosen : ℕ → Bool) → HeadsKept chosen
 heads_kept chosen A B cs lA lB oA oB R few drives =
-    let k = channels_kept_lem chosen A B cs lA lB oA oB R few in
+    let k = channels_kept chosen A B cs lA lB oA oB R few in
     heads_alike chosen _ _ (calls_alike chosen A B cs cs _ _ lA lB k.same k.first k.second drives)
 
 -- The same of calls and steps that were made, from what `open`, `section` and `step` promise and nothing else.

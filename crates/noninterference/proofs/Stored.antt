@@ -24,7 +24,7 @@ use Rattle.noninterference.specs.Made.{call_of, MadeOn, read_back}
 use Rattle.noninterference.specs.Sheets.{sheet_of}
 use Rattle.noninterference.specs.Stored.{kept_byte, sheet_bytes, SheetsAlike, ColumnsKept, ColumnsHoweverRevoiced}
 use Rattle.noninterference.proofs.Sheets.{record_length, entry_alike, count_alike}
-use Rattle.noninterference.proofs.Theorem.{channels_kept_lem, made_kept, opened_lent}
+use Rattle.noninterference.proofs.Theorem.{channels_kept, made_kept, opened_lent}
 
 -- byte c of record r, of records of 536 bytes joined
 sheet_byte : (rs : List (List ℕ)) → ((i : ℕ) → i < length rs → length (get_or rs i []) ≡ 536) → (c r : ℕ) → c < 536 → r < length rs → byte_of (joined rs) c r ≡ get_or (get_or rs r []) c 0
@@ -115,7 +115,7 @@ module _ (chosen : ℕ → Bool) (A B : Tune) (cs ds : List Call) (xs ys : List 
 -- columns of the row heads, without the strike masks, and of the set's channels are the same.
 pub columns_kept : (chosen : ℕ → Bool) → ColumnsKept chosen
 columns_kept chosen A B cs lA lB oA oB R few =
-    let k = channels_kept_lem chosen A B cs lA lB oA oB R few in
+    let k = channels_kept chosen A B cs lA lB oA oB R few in
     sheets_alike chosen A B cs cs _ _ lA lB k.same k.first k.second
 
 -- The same of calls that were made, from what `open`, `section` and `store` promise and nothing else.

@@ -39,8 +39,8 @@ cells_whole u o = (sized u.tables.orders u.tables.cells u.tables.samples (sound 
 -- states. In each tune a call is refused exactly where rule 12 holds, as 12, with the state it got; any other gives as many
 -- rows as its size or as the path machine still has, whichever is less: the next that the path and the channel machine give
 -- from Open, with their ending and their state; all records joined are the first of theirs, each once.
-pub channels_kept_lem : (chosen : ℕ → Bool) → ChannelsKept chosen
-channels_kept_lem chosen A B cs lA lB oA oB R h =
+pub channels_kept : (chosen : ℕ → Bool) → ChannelsKept chosen
+channels_kept chosen A B cs lA lB oA oB R h =
     let few = few_granted A lA oA cs h in
     let eA = answers_shares A lA oA cs few in
     let eB = answers_shares B lB oB cs few in
@@ -53,7 +53,7 @@ channels_kept_lem chosen A B cs lA lB oA oB R h =
 
 -- However the other channels are re-voiced, channel k stays the same: demand 3, for the set that has k alone.
 pub channel_kept : (k : ℕ) → ChannelKept k
-channel_kept k = channels_kept_lem (eqb k)
+channel_kept k = channels_kept (eqb k)
 
 -- A tune that Open was called on is one whose tables and opening values have their types: Open promises it (`typed`)
 pub opened_lent : (u : Tune) → ByteTables u.tables × ShapedOpening u.opening → Lent u
@@ -94,7 +94,7 @@ made_kept A o xs onA chosen B p ys onB R e few =
     let cs : List Call = map call_of xs in
     let a = made_are A o xs onA in
     let b : map read_back ys ≡ answers_of B.tables (opened B) cs = made_are B p ys onB ∙ ap (answers_of B.tables (opened B)) (sym e) in
-    let k = channels_kept_lem chosen A B cs (made_lent A o xs onA) (made_lent B p ys onB) (accepted_rule A o xs onA) (accepted_rule B p ys onB) R (subst (λ (l : List Answer). sizes_given cs l ≤ 2 ^ 32) a few) in
+    let k = channels_kept chosen A B cs (made_lent A o xs onA) (made_lent B p ys onB) (accepted_rule A o xs onA) (accepted_rule B p ys onB) R (subst (λ (l : List Answer). sizes_given cs l ≤ 2 ^ 32) a few) in
     record {
       same = subst (λ (l : List Answer). Same chosen l (map read_back ys)) (sym a) (subst (Same chosen (answers_of A.tables (opened A) cs)) (sym b) k.same);
       first = made_faithful A o xs onA (subst (Faithful A cs) (sym a) k.first);

@@ -1,10 +1,10 @@
 // The functions by their numbers in the list: an arm with the call and an arm with the name for each.
-use libc::STDOUT_FILENO;
 use lomqashe::{
     lomqashe_head_step, lomqashe_is_closed, lomqashe_line, lomqashe_measure, lomqashe_open,
     lomqashe_open_closed, lomqashe_read, lomqashe_restore, lomqashe_section, lomqashe_store,
     lomqashe_strikes,
 };
+use std::io;
 
 // In place of an answer where there is no such function: no answer that has 255 in its high byte has more in the others.
 pub const UNKNOWN: u32 = 0xFFFF_FFFF;
@@ -35,24 +35,25 @@ pub fn call(
     }
 }
 
-fn print(name: &[u8]) -> bool {
-    io::write_all(STDOUT_FILENO, name)
+fn print(rt: &impl Print, name: &[u8]) -> io::Result<bool> {
+    rt.write_all(name)?;
+    Ok(true)
 }
 
 // False where there is no such function.
-pub fn print_name(function: usize) -> bool {
+pub fn print_name(rt: &impl Print, function: usize) -> io::Result<bool> {
     match function {
-        1 => print(b"measure"),
-        2 => print(b"read"),
-        3 => print(b"open"),
-        4 => print(b"section"),
-        5 => print(b"strikes"),
-        6 => print(b"line"),
-        7 => print(b"is_closed"),
-        8 => print(b"open_closed"),
-        9 => print(b"head_step"),
-        10 => print(b"store"),
-        11 => print(b"restore"),
-        _ => false,
+        1 => print(rt, b"measure"),
+        2 => print(rt, b"read"),
+        3 => print(rt, b"open"),
+        4 => print(rt, b"section"),
+        5 => print(rt, b"strikes"),
+        6 => print(rt, b"line"),
+        7 => print(rt, b"is_closed"),
+        8 => print(rt, b"open_closed"),
+        9 => print(rt, b"head_step"),
+        10 => print(rt, b"store"),
+        11 => print(rt, b"restore"),
+        _ => Ok(false),
     }
 }

@@ -7,6 +7,7 @@ use crate::input;
 use crate::input::{Head, LargeRoom, MiddleRoom, SmallRoom, read_exact, size_at};
 use crate::pieces::{copy_within, put_pieces};
 use crate::tally::compared;
+use std::io::Read;
 use tune::numbers::u32_at;
 
 // How many bytes are lent, and how many pieces there are before and after the call.
@@ -29,21 +30,21 @@ fn slot_of(head: &Head, k: usize) -> Slot
 }
 
 // Puts the pieces before, copies what is lent and puts the pieces after. False where the slot is misread.
-fn read_slot(fd: i32, slot: Slot, room: &mut [u8]) -> bool {
+fn read_slot(list: &mut impl Read, slot: Slot, room: &mut [u8]) -> bool {
     let half = room.len() / 2;
     let n = slot.length;
     if half < n {
         return false;
     }
-    if !put_pieces(fd, slot.before, &mut room[0..half]) {
+    if !put_pieces(list, slot.before, &mut room[0..half]) {
         return false;
     }
     copy_within(room, half, n, 0);
-    put_pieces(fd, slot.after, &mut room[half..])
+    put_pieces(list, slot.after, &mut room[half..])
 }
 
 fn read_slots(
-    fd: i32,
+    list: &mut impl Read,
     head: &Head,
     s0: &mut SmallRoom,
     s1: &mut LargeRoom,
@@ -51,19 +52,19 @@ fn read_slots(
     s3: &mut SmallRoom,
     s4: &mut MiddleRoom,
 ) -> bool {
-    if !read_slot(fd, slot_of(head, 0), s0) {
+    if !read_slot(list, slot_of(head, 0), s0) {
         return false;
     }
-    if !read_slot(fd, slot_of(head, 1), s1) {
+    if !read_slot(list, slot_of(head, 1), s1) {
         return false;
     }
-    if !read_slot(fd, slot_of(head, 2), s2) {
+    if !read_slot(list, slot_of(head, 2), s2) {
         return false;
     }
-    if !read_slot(fd, slot_of(head, 3), s3) {
+    if !read_slot(list, slot_of(head, 3), s3) {
         return false;
     }
-    read_slot(fd, slot_of(head, 4), s4)
+    read_slot(list, slot_of(head, 4), s4)
 }
 
 // The bytes that the call is lent.
@@ -133,7 +134,7 @@ fn count_case(head: &Head, answer: u32, same: bool, counts: &mut [u64]) {
 
 // False where the case is misread.
 fn run_case(
-    fd: i32,
+    list: &mut impl Read,
     s0: &mut SmallRoom,
     s1: &mut LargeRoom,
     s2: &mut SmallRoom,
@@ -142,10 +143,10 @@ fn run_case(
     counts: &mut [u64],
 ) -> bool {
     let mut head = input::head_room();
-    if !read_exact(fd, &mut head) {
+    if !read_exact(list, &mut head) {
         return false;
     }
-    if !read_slots(fd, &head, s0, s1, s2, s3, s4) {
+    if !read_slots(list, &head, s0, s1, s2, s3, s4) {
         return false;
     }
     let answer = call_lent(&head, s0, s1, s2, s3, s4);
@@ -157,7 +158,7 @@ fn run_case(
     true
 }
 
-fn run_cases(fd: i32, cases: usize, counts: &mut [u64]) -> bool {
+fn run_cases(list: &mut impl Read, cases: usize, counts: &mut [u64]) -> bool {
     let mut s0 = input::small_room();
     let mut s1 = input::large_room();
     let mut s2 = input::small_room();
@@ -165,7 +166,7 @@ fn run_cases(fd: i32, cases: usize, counts: &mut [u64]) -> bool {
     let mut s4 = input::middle_room();
     let mut n: usize = 0;
     while n < cases {
-        if !run_case(fd, &mut s0, &mut s1, &mut s2, &mut s3, &mut s4, counts) {
+        if !run_case(list, &mut s0, &mut s1, &mut s2, &mut s3, &mut s4, counts) {
             return false;
         }
         n += 1;
@@ -174,12 +175,12 @@ fn run_cases(fd: i32, cases: usize, counts: &mut [u64]) -> bool {
 }
 
 // All cases, behind which nothing more may stand. False where the list is misread.
-pub fn run(fd: i32, counts: &mut [u64]) -> bool {
+pub fn run(list: &mut impl Read, counts: &mut [u64]) -> bool {
     let mut number = input::number_room();
-    if !read_exact(fd, &mut number) {
+    if !read_exact(list, &mut number) {
         return false;
     }
-    let whole = run_cases(fd, size_at(&number, 0), counts);
-    let left = io::read_full(fd, &mut number);
+    let whole = run_cases(list, size_at(&number, 0), counts);
+    let left = list.read(&mut number).unwrap_or(0);
     whole & (left == 0)
 }

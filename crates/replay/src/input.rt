@@ -1,6 +1,7 @@
 // Room for what is read, and reading it. The contracts give the lengths alone: the zeros would stand in each goal.
 ghost use Rattle.std.specs.Prelude.{◌≡◌, ◌+◌, ◌<◌, ◌≤◌, length};
 
+use std::io::Read;
 use tune::numbers::u32_at;
 
 // What stands before the pieces of a case.
@@ -50,9 +51,9 @@ pub fn large_room() -> LargeRoom
     [0; 2097152]
 }
 
-// False where the list ends before the bytes are full.
-pub fn read_exact(fd: i32, bytes: &mut [u8]) -> bool {
-    io::read_full(fd, bytes) == bytes.len()
+// False where the list ends before the bytes are full, or cannot be read.
+pub fn read_exact(list: &mut impl Read, bytes: &mut [u8]) -> bool {
+    list.read_exact(bytes).is_ok()
 }
 
 // A number as a length or a place.

@@ -8,15 +8,14 @@ mod input;
 mod pieces;
 mod tally;
 
-fn main() {
-    let fd = os::open_read(b"calls");
-    if fd < 0 {
-        os::fail(b"calls");
-        return;
-    }
+use std::fs::File;
+use std::io;
+use std::io::BufReader;
+
+fn main(rt: HostRuntime) -> io::Result<()> {
+    let mut list = BufReader::new(rt.alloc(), File::open(&rt, "calls")?)?;
     let mut counters = tally::counters();
     let counts: &mut [u64] = &mut counters;
-    let whole = cases::run(fd, counts);
-    libc::close(fd);
-    tally::print(counts, whole);
+    let whole = cases::run(&mut list, counts);
+    tally::print(&rt, counts, whole)
 }

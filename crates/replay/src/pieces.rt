@@ -2,6 +2,7 @@
 ghost use Rattle.std.specs.Prelude.{◌+◌, ◌≤◌, length};
 
 use crate::input::{piece_room, read_exact, size_at};
+use std::io::Read;
 
 // In place of where to copy from: the bytes follow in the list.
 const FOLLOWING: usize = 0xFFFF_FFFF;
@@ -18,9 +19,9 @@ pub fn copy_within(room: &mut [u8], at: usize, count: usize, from: usize)
 }
 
 // False where the piece goes past the room or is cut short.
-fn put_piece(fd: i32, room: &mut [u8]) -> bool {
+fn put_piece(list: &mut impl Read, room: &mut [u8]) -> bool {
     let mut piece = piece_room();
-    if !read_exact(fd, &mut piece) {
+    if !read_exact(list, &mut piece) {
         return false;
     }
     let at = size_at(&piece, 0);
@@ -31,7 +32,7 @@ fn put_piece(fd: i32, room: &mut [u8]) -> bool {
         return false;
     }
     if from == FOLLOWING {
-        return read_exact(fd, &mut room[at..end]);
+        return read_exact(list, &mut room[at..end]);
     }
     if room.len() < from + count {
         return false;
@@ -41,10 +42,10 @@ fn put_piece(fd: i32, room: &mut [u8]) -> bool {
 }
 
 // False where one of them is misread.
-pub fn put_pieces(fd: i32, pieces: usize, room: &mut [u8]) -> bool {
+pub fn put_pieces(list: &mut impl Read, pieces: usize, room: &mut [u8]) -> bool {
     let mut n: usize = 0;
     while n < pieces {
-        if !put_piece(fd, room) {
+        if !put_piece(list, room) {
             return false;
         }
         n += 1;

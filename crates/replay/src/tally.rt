@@ -2,7 +2,7 @@
 ghost use Rattle.std.specs.Prelude.{◌≡◌, length};
 
 use crate::calls::print_name;
-use libc::STDOUT_FILENO;
+use std::io;
 
 // The functions are below this. Their cases are counted from 0 on, the differences from here on.
 const MOST: usize = 64;
@@ -28,40 +28,43 @@ pub fn compared(counts: &mut [u64], function: usize, same: bool) {
     }
 }
 
-fn print_count(before: &[u8], counts: &[u64], counter: usize) {
+fn print_count(rt: &impl Print, before: &[u8], counts: &[u64], counter: usize) -> io::Result<()> {
     if counter < counts.len() {
-        io::write_all(STDOUT_FILENO, before);
-        io::print_decimal(STDOUT_FILENO, counts[counter]);
+        rt.write_all(before)?;
+        rt.print(counts[counter])?;
     }
+    Ok(())
 }
 
 // False where there is no such function.
-fn print_function(counts: &[u64], function: usize) -> bool {
+fn print_function(rt: &impl Print, counts: &[u64], function: usize) -> io::Result<bool> {
     if MOST <= function {
-        return false;
+        return Ok(false);
     }
-    if !print_name(function) {
-        return false;
+    if !print_name(rt, function)? {
+        return Ok(false);
     }
-    print_count(b": ", counts, function);
-    print_count(b" cases, ", counts, MOST + function);
-    io::write_all(STDOUT_FILENO, b" differences\n")
+    print_count(rt, b": ", counts, function)?;
+    print_count(rt, b" cases, ", counts, MOST + function)?;
+    rt.write_all(b" differences\n")?;
+    Ok(true)
 }
 
-fn print_functions(counts: &[u64]) {
+fn print_functions(rt: &impl Print, counts: &[u64]) -> io::Result<()> {
     let mut function: usize = 1;
     while function < MOST {
-        if !print_function(counts, function) {
-            return;
+        if !print_function(rt, counts, function)? {
+            return Ok(());
         }
         function += 1;
     }
+    Ok(())
 }
 
 // A line for each function, then whether the list could be read.
-pub fn print(counts: &[u64], whole: bool) {
-    print_functions(counts);
-    io::write_all(STDOUT_FILENO, b"misread: ");
-    io::print_decimal(STDOUT_FILENO, !whole as u64);
-    io::write_all(STDOUT_FILENO, b"\n");
+pub fn print(rt: &impl Print, counts: &[u64], whole: bool) -> io::Result<()> {
+    print_functions(rt, counts)?;
+    rt.write_all(b"misread: ")?;
+    rt.print(!whole as u64)?;
+    rt.write_all(b"\n")
 }
