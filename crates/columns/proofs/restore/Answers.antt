@@ -21,7 +21,6 @@ convert-requires c =
 pub returns : goal.returns
 unfolding restore_output
 returns c =
-    let b = c in
-    let a = b.args in
-    let q = call_done restored a.columns.now a.m a.out.now _ b.sizes_rule-rule.ensures b.if-rule-ne0.false c.convert.ensures in
+    let a = c.args in
+    let q = call_done restored a.columns.now a.m a.out.now _ c.sizes_rule-rule.ensures c.if-rule-ne0.false c.convert.ensures in
     record { answer = q.0; written = q.1 }

@@ -10,13 +10,10 @@ returns-then-command-gt255 c =
 
 pub returns-in-Done : goal.returns-in-Done
 returns-in-Done c =
-    let s = c in
-    let q = head_stepped _ _ _ c.in-Done.is s.if-command-gt255.false s.step.ensures.answer s.step.ensures.written in
+    let q = head_stepped _ _ _ c.in-Done.is c.if-command-gt255.false c.step.ensures.answer c.step.ensures.written in
     record { answer = q.0; written = q.1 }
 
 pub returns-in-Refused : goal.returns-in-Refused
 returns-in-Refused c =
-    let r = c in
-    let s = r in
-    let h = head_stepped _ _ _ r.in-Refused.is s.if-command-gt255.false s.step.ensures.answer s.step.ensures.written in
+    let h = head_stepped _ _ _ c.in-Refused.is c.if-command-gt255.false c.step.ensures.answer c.step.ensures.written in
     record { answer = c.refused.ensures ∙ h.0; written = h.1 }

@@ -10,14 +10,12 @@ returns-then-counts-ne12 c =
 
 pub returns-in-Found : goal.returns-in-Found
 returns-in-Found c =
-    let s = c in
     let m = c.measure in
-    let g = measure_given s.args.file.now s.args.counts.now c.in-Found.is c.if-counts-ne12.false m.ensures.value m.ensures.says in
+    let g = measure_given c.args.file.now c.args.counts.now c.in-Found.is c.if-counts-ne12.false m.ensures.value m.ensures.says in
     record { answer = g.0; written = c.put_counts.ensures ∙ g.1 }
 
 pub returns-in-Refused : goal.returns-in-Refused
 returns-in-Refused c =
-    let s = c in
     let m = c.measure in
-    let g = measure_given s.args.file.now s.args.counts.now c.in-Refused.is c.if-counts-ne12.false m.ensures.value m.ensures.says in
+    let g = measure_given c.args.file.now c.args.counts.now c.in-Refused.is c.if-counts-ne12.false m.ensures.value m.ensures.says in
     record { answer = c.refused.ensures ∙ g.0; written = g.1 }

@@ -22,9 +22,8 @@ returns-then-state-ne2624 c =
 pub returns : goal.returns
 unfolding open_refusal open_of
 returns c =
-    let e = c in
-    let o = e.opening_of in
-    let a = e.args in
+    let o = c.opening_of in
+    let a = c.args in
     let w = c.answer_opened.ensures in
-    let g = opened_bytes (open_rule (lent a.orders.now a.cells.now a.samples.now)) a.opening.now a.state.now e.if-opening-ne176.false e.if-state-ne2624.false o.result e.«open».result o.ensures e.«open».ensures.answer w.answer w.written w.kept in
+    let g = opened_bytes (open_rule (lent a.orders.now a.cells.now a.samples.now)) a.opening.now a.state.now c.if-opening-ne176.false c.if-state-ne2624.false o.result c.«open».result o.ensures c.«open».ensures.answer w.answer w.written w.kept in
     record { answer = g.answer; written = g.written; kept = g.kept }

@@ -12,9 +12,8 @@ loop-row-smaller c = walk_less _ _ _ c.loop-row-test.true c.put_step-p.ensures.p
 
 pub loop-row-preserved : goal.loop-row-preserved
 loop-row-preserved c =
-    let d = c in
-    let l = d.loop-row in
-    (search rules, filling_next l.cells l.invariant.1 d.loop-row-test.true d.put_step-p.ensures.place d.put_step-p.ensures.written)
+    let l = c.loop-row in
+    (search rules, filling_next l.cells l.invariant.1 c.loop-row-test.true c.put_step-p.ensures.place c.put_step-p.ensures.written)
 
 pub returns : goal.returns
 returns c = filling_done c.loop-row.invariant.1 c.loop-row-test.false

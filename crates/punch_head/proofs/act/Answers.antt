@@ -18,28 +18,17 @@ bounds-registers-1-2 c = let k = (head_kept _ _ _ c.requires).0.size in rw (leng
 
 pub take_row-requires : goal.take_row-requires
 take_row-requires c =
-    let t = c in
-    let a = t in
-    let p = a in
-    let k = (head_kept _ _ _ p.requires).0.size in
-    (rw (length-set {A = ℕ}, length-set {A = ℕ}) k, row_whole _ _ _ _ p.requires a.action_of-action.ensures (sym t.is_taken.ensures ∙ t.if-is_taken.true))
+    let k = (head_kept _ _ _ c.requires).0.size in
+    (rw (length-set {A = ℕ}, length-set {A = ℕ}) k, row_whole _ _ _ _ c.requires c.action_of-action.ensures (sym c.is_taken.ensures ∙ c.if-is_taken.true))
 
 pub returns-then-is_taken : goal.returns-then-is_taken
-returns-then-is_taken c =
-    let t = c in
-    let i = t in
-    let s = i in
-    let a = s in
-    let p = a in (
-      a.action_of-action.ensures ∙ ap (action_of _) a.is_loaded.ensures,
-      row_taken _ _ _ _ _ (head_kept _ _ _ p.requires).0 s.status_by.ensures (sym i.is_taken.ensures ∙ i.if-is_taken.true) t.take_row.ensures,
-    )
+returns-then-is_taken c = (
+  c.action_of-action.ensures ∙ ap (action_of _) c.is_loaded.ensures,
+  row_taken _ _ _ _ _ (head_kept _ _ _ c.requires).0 c.status_by.ensures (sym c.is_taken.ensures ∙ c.if-is_taken.true) c.take_row.ensures,
+)
 
 pub returns-else-is_taken : goal.returns-else-is_taken
-returns-else-is_taken c =
-    let s = c in
-    let a = s in
-    let p = a in (
-      a.action_of-action.ensures ∙ ap (action_of _) a.is_loaded.ensures,
-      left_as_they_were _ _ _ _ _ (head_kept _ _ _ p.requires).0 s.status_by.ensures (sym c.is_taken.ensures ∙ c.if-is_taken.false),
-    )
+returns-else-is_taken c = (
+  c.action_of-action.ensures ∙ ap (action_of _) c.is_loaded.ensures,
+  left_as_they_were _ _ _ _ _ (head_kept _ _ _ c.requires).0 c.status_by.ensures (sym c.is_taken.ensures ∙ c.if-is_taken.false),
+)

@@ -9,7 +9,5 @@ returns-then-rule-ne0 c =
 
 pub returns : goal.returns
 returns c =
-    let a = c in
-    let i = a in
-    let q = step_done _ _ _ _ i.head_rule-rule.ensures i.if-rule-ne0.false a.act.ensures.0 a.act.ensures.1 in
+    let q = step_done _ _ _ _ c.head_rule-rule.ensures c.if-rule-ne0.false c.act.ensures.0 c.act.ensures.1 in
     record { answer = q.0; written = q.1 }

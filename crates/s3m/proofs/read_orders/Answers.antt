@@ -5,5 +5,4 @@ use Rattle.s3m.proofs.read_orders.Goals as goal
 
 pub returns : goal.returns
 returns c =
-    let s = c in
-    c.copy_from.ensures ∙ rw s.requires.1 (bytes_there s.args.file.now 96 s.args.n s.requires.0)
+    c.copy_from.ensures ∙ rw c.requires.1 (bytes_there c.args.file.now 96 c.args.n c.requires.0)

@@ -10,8 +10,7 @@ with_row-loops-requires c = rows_few _ _ _ _ _ _ c.loop-row.invariant
 
 pub loop-row-preserved : goal.loop-row-preserved
 loop-row-preserved c =
-    let l = c in
-    rows_next _ _ _ _ _ _ _ _ _ _ l.loop-row.invariant l.loop-row-test.true c.row_cells.ensures.0 c.read_row-read.ensures.0 c.read_row-read.ensures.1 c.with_row-loops.ensures
+    rows_next _ _ _ _ _ _ _ _ _ _ c.loop-row.invariant c.loop-row-test.true c.row_cells.ensures.0 c.read_row-read.ensures.0 c.read_row-read.ensures.1 c.with_row-loops.ensures
 
 pub returns : goal.returns
 returns c = rows_done _ _ _ _ _ _ _ c.loop-row.invariant c.loop-row-test.false c.after_last-after.ensures

@@ -7,5 +7,4 @@ loop-channel-init c = channels_start _ _
 
 pub loop-channel-preserved : goal.loop-channel-preserved
 loop-channel-preserved c =
-    let l = c in
-    channels_next _ _ _ _ _ _ l.loop-channel.invariant l.loop-channel-test.true c.cell_of.ensures c.read_cell-read.ensures.0 c.read_cell-read.ensures.1
+    channels_next _ _ _ _ _ _ c.loop-channel.invariant c.loop-channel-test.true c.cell_of.ensures c.read_cell-read.ensures.0 c.read_cell-read.ensures.1

@@ -6,8 +6,7 @@ use Rattle.columns.proofs.converting.block.Goals as goal
 
 pub loop-c-preserved : goal.loop-c-preserved
 loop-c-preserved c =
-    let b = c in
-    let a = b.args in
+    let a = c.args in
     let l = c.loop-c in
     let i = c.loop-c-test.true in
     let t = c.strip in (

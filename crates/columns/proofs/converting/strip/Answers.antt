@@ -6,8 +6,7 @@ use Rattle.columns.proofs.converting.strip.Goals as goal
 
 pub loop-r-preserved : goal.loop-r-preserved
 loop-r-preserved c =
-    let b = c in
-    let a = b.args in
+    let a = c.args in
     let l = c.loop-r in
     let at = c.lesser-at in
     let t = c.tile in (

@@ -5,6 +5,5 @@ use Rattle.columns.proofs.converting.tile.Goals as goal
 
 pub restore_tile-requires : goal.restore_tile-requires
 restore_tile-requires c =
-    let b = c in
-    let a = b.args in
-    record { sized = search rules; strip = subst (λ (w : Bool). Strip (place_of w a.m) (made_at w a.input.now a.m) a.out.now a.c a.s) c.if-storing.false b.requires.strip }
+    let a = c.args in
+    record { sized = search rules; strip = subst (λ (w : Bool). Strip (place_of w a.m) (made_at w a.input.now a.m) a.out.now a.c a.s) c.if-storing.false c.requires.strip }

@@ -5,11 +5,10 @@ use Rattle.columns.proofs.tiles.copy_row.Goals as goal
 
 pub loop-j-preserved : goal.loop-j-preserved
 loop-j-preserved c =
-    let b = c in
-    let a = b.args in
+    let a = c.args in
     let l = c.loop-j in
     let i = c.loop-j-test.true in
-    let f : a.a + l.j < length l.to = omega (arith, b.requires.0, l.invariant.1, i) in (
+    let f : a.a + l.j < length l.to = omega (arith, c.requires.0, l.invariant.1, i) in (
       search rules,
       search rules,
       λ g h. (

@@ -6,8 +6,7 @@ use Rattle.columns.proofs.tiles.copy_rows.Goals as goal
 
 pub loop-i-preserved : goal.loop-i-preserved
 loop-i-preserved c =
-    let b = c in
-    let a = b.args in
+    let a = c.args in
     let l = c.loop-i in
     let i = c.loop-i-test.true in
     let r = c.copy_row in (

@@ -7,18 +7,14 @@ use Rattle.columns.proofs.witness.restore_and_store.Goals as goal
 pub returns-in-Done : goal.returns-in-Done
 returns-in-Done c =
     let second = c.store in
-    let d = c in
-    let f = d in
-    let first = f.restore in
-    let g = f in
-    let a = g.args in
-    let t = trip_done a.columns.now a.m a.records.now a.back.now restore_output store_output restored_then_stored (λ k. omega (arith, g.type_inv.columns k)) first.result second.result
-    d.in-Done.is first.ensures.answer first.ensures.written second.ensures.answer second.ensures.written in
+    let first = c.restore in
+    let a = c.args in
+    let t = trip_done a.columns.now a.m a.records.now a.back.now restore_output store_output restored_then_stored (λ k. omega (arith, c.type_inv.columns k)) first.result second.result
+    c.in-Done.is first.ensures.answer first.ensures.written second.ensures.answer second.ensures.written in
     record { answer = t.0; written = t.1; between = first.ensures.written }
 
 pub returns-in-Refused : goal.returns-in-Refused
 returns-in-Refused c =
-    let f = c in
-    let a = f.args in
-    let t = trip_refused a.columns.now a.m a.records.now a.back.now _ _ c.in-Refused.is f.restore.ensures.answer in
-    record { answer = t.0; written = t.1; between = f.restore.ensures.written }
+    let a = c.args in
+    let t = trip_refused a.columns.now a.m a.records.now a.back.now _ _ c.in-Refused.is c.restore.ensures.answer in
+    record { answer = t.0; written = t.1; between = c.restore.ensures.written }

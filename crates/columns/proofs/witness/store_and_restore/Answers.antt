@@ -7,18 +7,14 @@ use Rattle.columns.proofs.witness.store_and_restore.Goals as goal
 pub returns-in-Done : goal.returns-in-Done
 returns-in-Done c =
     let second = c.restore in
-    let d = c in
-    let f = d in
-    let first = f.store in
-    let g = f in
-    let a = g.args in
-    let t = trip_done a.records.now a.m a.columns.now a.back.now store_output restore_output stored_then_restored (λ k. omega (arith, g.type_inv.records k)) first.result second.result
-    d.in-Done.is first.ensures.answer first.ensures.written second.ensures.answer second.ensures.written in
+    let first = c.store in
+    let a = c.args in
+    let t = trip_done a.records.now a.m a.columns.now a.back.now store_output restore_output stored_then_restored (λ k. omega (arith, c.type_inv.records k)) first.result second.result
+    c.in-Done.is first.ensures.answer first.ensures.written second.ensures.answer second.ensures.written in
     record { answer = t.0; written = t.1; between = first.ensures.written }
 
 pub returns-in-Refused : goal.returns-in-Refused
 returns-in-Refused c =
-    let f = c in
-    let a = f.args in
-    let t = trip_refused a.records.now a.m a.columns.now a.back.now _ _ c.in-Refused.is f.store.ensures.answer in
-    record { answer = t.0; written = t.1; between = f.store.ensures.written }
+    let a = c.args in
+    let t = trip_refused a.records.now a.m a.columns.now a.back.now _ _ c.in-Refused.is c.store.ensures.answer in
+    record { answer = t.0; written = t.1; between = c.store.ensures.written }

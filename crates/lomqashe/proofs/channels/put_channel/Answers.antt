@@ -13,19 +13,15 @@ use Rattle.lomqashe.proofs.channels.put_channel.Goals as goal
 pub returns : goal.returns
 unfolding channel_bytes
 returns c =
-    let p2 = c in
-    let p1 = p2 in
-    let f = p1 in
-    let s = f in
-    let l = s.args.out.now in
-    let a = s.args.at in
-    let x = float_bytes s.args.c in
-    let y = field_bytes s.args.c in
-    let n : length y ≡ 32 = ap length (sym f.field_bytes-fields.ensures) ∙ p2.put_block.ensures.1 in
-    let m : length (x ++ y) ≡ 48 = length-append x y ∙ rw (float_length s.args.c, n) in
-    put_next l (x ++ y) {b = s.args.c.effect_memory} a 48 32 80 refl (omega arith) m c.put_block-2.ensures.1 refl
-    (put_next l x a 16 32 48 refl (omega arith) (float_length s.args.c) p2.put_block.ensures.1 f.field_bytes-fields.ensures
-    (put_as l a 16 (search rules) f.float_bytes-floats.ensures p1.put_at.ensures)
-    p2.put_block.ensures.0)
+    let l = c.args.out.now in
+    let a = c.args.at in
+    let x = float_bytes c.args.c in
+    let y = field_bytes c.args.c in
+    let n : length y ≡ 32 = ap length (sym c.field_bytes-fields.ensures) ∙ c.put_block.ensures.1 in
+    let m : length (x ++ y) ≡ 48 = length-append x y ∙ rw (float_length c.args.c, n) in
+    put_next l (x ++ y) {b = c.args.c.effect_memory} a 48 32 80 refl (omega arith) m c.put_block-2.ensures.1 refl
+    (put_next l x a 16 32 48 refl (omega arith) (float_length c.args.c) c.put_block.ensures.1 c.field_bytes-fields.ensures
+    (put_as l a 16 (search rules) c.float_bytes-floats.ensures c.put_at.ensures)
+    c.put_block.ensures.0)
     c.put_block-2.ensures.0
-    ∙ ap (λ (z : List ℕ). take a l ++ (z ++ drop (a + 80) l)) (append_assoc x y s.args.c.effect_memory)
+    ∙ ap (λ (z : List ℕ). take a l ++ (z ++ drop (a + 80) l)) (append_assoc x y c.args.c.effect_memory)

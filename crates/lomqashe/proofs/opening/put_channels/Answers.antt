@@ -13,8 +13,7 @@ loop-i-init c = (omega arith, search rules, refl, none_written setting_bytes 16 
 
 pub loop-i-preserved : goal.loop-i-preserved
 loop-i-preserved c =
-    let b = c in
-    let l = b.loop-i in
-    let s = b.args in
-    let put = put_as l.out (16 + l.i * 4) 4 (search rules) b.channel_bytes-bytes.ensures c.put_at.ensures in
+    let l = c.loop-i in
+    let s = c.args in
+    let put = put_as l.out (16 + l.i * 4) 4 (search rules) c.channel_bytes-bytes.ensures c.put_at.ensures in
     (omega arith, l.invariant.1, search rules, one_more setting_bytes 16 4 s.channels s.out.now l.i _ l.out l.invariant.3 (omega arith) (omega arith) (search rules) put)

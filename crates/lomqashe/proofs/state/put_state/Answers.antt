@@ -13,18 +13,14 @@ use Rattle.lomqashe.proofs.state.put_state.Goals as goal
 pub returns : goal.returns
 unfolding state_bytes
 returns c =
-    let p2 = c in
-    let p1 = p2 in
-    let h = p1 in
-    let a = h in
-    let l = a.args.state.now in
-    let x = head_bytes a.args.s in
-    let y = a.args.s.path.s_info in
-    let n : length x ≡ 32 = ap length (sym h.head_bytes-head.ensures) ∙ p1.put_block.ensures.1 in
-    let k : length y ≡ 32 = p2.put_block-2.ensures.1 in record {
+    let l = c.args.state.now in
+    let x = head_bytes c.args.s in
+    let y = c.args.s.path.s_info in
+    let n : length x ≡ 32 = ap length (sym c.head_bytes-head.ensures) ∙ c.put_block.ensures.1 in
+    let k : length y ≡ 32 = c.put_block-2.ensures.1 in record {
       written = behind l (x ++ y) _ 64 (length-append x y ∙ rw (n, k))
           (put_next l x {b = y} 0 32 32 64 refl (omega arith) n k refl
-          (put_as l 0 32 p1.put_block.ensures.1 h.head_bytes-head.ensures p1.put_block.ensures.0) p2.put_block-2.ensures.0)
+          (put_as l 0 32 c.put_block.ensures.1 c.head_bytes-head.ensures c.put_block.ensures.0) c.put_block-2.ensures.0)
           c.put_channels.ensures;
-      kept = state_kept _ (state_given _ _ a.well_formed.1.0);
+      kept = state_kept _ (state_given _ _ c.well_formed.1.0);
     }

@@ -15,6 +15,5 @@ frequency_of-requires c =
 pub returns : goal.returns
 unfolding note_frequency
 returns c =
-    let a = c in
     c.frequency_of.ensures
-    ∙ ap frequency_of (c.period_at.ensures ∙ ap (λ t. period_at (note_number a.args.note t) a.args.c5) (to_z-of_z a.ranges.transposition))
+    ∙ ap frequency_of (c.period_at.ensures ∙ ap (λ t. period_at (note_number c.args.note t) c.args.c5) (to_z-of_z c.ranges.transposition))

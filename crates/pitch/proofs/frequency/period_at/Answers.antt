@@ -18,6 +18,5 @@ overflow_mul-result c =
 pub returns : goal.returns
 unfolding period_at
 returns c =
-    let a = c in
-    let e = c.note_period.ensures ∙ ap (λ t. period_of (note_number a.args.note t)) (to_z-of_z a.ranges.transposition) in
+    let e = c.note_period.ensures ∙ ap (λ t. period_of (note_number c.args.note t)) (to_z-of_z c.ranges.transposition) in
     ap₂ (λ p n. 8363 * p / n) e c.at_least_one.ensures

@@ -5,18 +5,15 @@ use Rattle.pitch.proofs.periods.note_number.Goals as goal
 
 pub returns-then-n-lt128 : goal.returns-then-n-lt128
 returns-then-n-lt128 c =
-    let a = c in
     let n = c.raised_number-n in
-    record { value = omega (arith, number_passed a.args.note a.args.transposition n.result a.ranges.transposition n.ensures, c.if-n-lt128.true); within = omega arith }
+    record { value = omega (arith, number_passed c.args.note c.args.transposition n.result c.ranges.transposition n.ensures, c.if-n-lt128.true); within = omega arith }
 
 pub returns-then-n-lt235 : goal.returns-then-n-lt235
 returns-then-n-lt235 c =
-    let a = c in
     let n = c.raised_number-n in
-    record { value = omega (arith, number_passed a.args.note a.args.transposition n.result a.ranges.transposition n.ensures, c.if-n-lt235.true); within = omega (arith, c.if-n-lt235.true) }
+    record { value = omega (arith, number_passed c.args.note c.args.transposition n.result c.ranges.transposition n.ensures, c.if-n-lt235.true); within = omega (arith, c.if-n-lt235.true) }
 
 pub returns-else-n-lt235 : goal.returns-else-n-lt235
 returns-else-n-lt235 c =
-    let a = c in
     let n = c.raised_number-n in
-    record { value = omega (arith, number_passed a.args.note a.args.transposition n.result a.ranges.transposition n.ensures, c.if-n-lt235.false); within = omega arith }
+    record { value = omega (arith, number_passed c.args.note c.args.transposition n.result c.ranges.transposition n.ensures, c.if-n-lt235.false); within = omega arith }

@@ -10,8 +10,7 @@ use Rattle.pitch.proofs.periods.note_period.Goals as goal
 
 pub returns : goal.returns
 returns c =
-    let a = c in
     let n = c.raised_number-n in
     let inside = or_false (ltb n.result 128) (leb 212 n.result) c.if-n.false in
-    let e = number_passed a.args.note a.args.transposition n.result a.ranges.transposition n.ensures in
+    let e = number_passed c.args.note c.args.transposition n.result c.ranges.transposition n.ensures in
     c.period-2.ensures ∙ ap period_of (omega (arith, e, leb-false 212 n.result inside.1))

@@ -10,13 +10,11 @@ returns-then-registers-ne16 c = simp (ne_eqb _ _ c.if-registers-ne16.true)
 pub returns-then-registers-has_other_bits : goal.returns-then-registers-has_other_bits
 unfolding registers_rule
 returns-then-registers-has_other_bits c =
-    let b = c in
-    let o = b.has_other_bits.ensures in
-    simp (eq-eqb _ _ b.if-registers-ne16.false, ← o, c.if-registers-has_other_bits.true)
+    let o = c.has_other_bits.ensures in
+    simp (eq-eqb _ _ c.if-registers-ne16.false, ← o, c.if-registers-has_other_bits.true)
 
 pub returns : goal.returns
 unfolding registers_rule
 returns c =
-    let b = c in
-    let o = b.has_other_bits.ensures in
-    simp (eq-eqb _ _ b.if-registers-ne16.false, ← o, c.if-registers-has_other_bits.false)
+    let o = c.has_other_bits.ensures in
+    simp (eq-eqb _ _ c.if-registers-ne16.false, ← o, c.if-registers-has_other_bits.false)

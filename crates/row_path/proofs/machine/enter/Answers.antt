@@ -8,9 +8,8 @@ use Rattle.row_path.proofs.machine.enter.Goals as goal
 pub visit-requires : goal.visit-requires
 unfolding arrived
 visit-requires c =
-    let s = c in
-    let named = named_below s.args.orders.now _ _ _ (sym c.pattern_at-named.ensures ∙ c.in-Some.is) in
-    (omega (arith, named), rw c.arrive.ensures s.requires.1, rw c.arrive.ensures s.requires.2)
+    let named = named_below c.args.orders.now _ _ _ (sym c.pattern_at-named.ensures ∙ c.in-Some.is) in
+    (omega (arith, named), rw c.arrive.ensures c.requires.1, rw c.arrive.ensures c.requires.2)
 
 pub returns-in-None : goal.returns-in-None
 unfolding entered entered_at

@@ -16,10 +16,8 @@ gone c = c.go_on.ensures ∙ rw (c.place_after.ensures, ← c.jumps.ensures, c.i
 
 pub returns-then-p-jumps : goal.returns-then-p-jumps
 returns-then-p-jumps c =
-    let s = c in
-    record { value = held c; within = left_within s.args.orders.now s.args.e _ (omega arith) s.requires.1 (omega arith) (held c) }
+    record { value = held c; within = left_within c.args.orders.now c.args.e _ (omega arith) c.requires.1 (omega arith) (held c) }
 
 pub returns : goal.returns
 returns c =
-    let s = c in
-    record { value = gone c; within = left_within s.args.orders.now s.args.e _ (omega arith) s.requires.1 (omega arith) (gone c) }
+    record { value = gone c; within = left_within c.args.orders.now c.args.e _ (omega arith) c.requires.1 (omega arith) (gone c) }

@@ -10,19 +10,17 @@ use Rattle.s3m.proofs.instruments.put_header.Goals as goal
 pub returns-then-kind-eq1 : goal.returns-then-kind-eq1
 unfolding header_sample
 returns-then-kind-eq1 c =
-    let s = c in
-    let l : s.args.at + 28 - (s.args.at + 16) ≡ 12 = omega arith in
-    let n : s.args.at + 36 - (s.args.at + 32) ≡ 4 = omega arith in
+    let l : c.args.at + 28 - (c.args.at + 16) ≡ 12 = omega arith in
+    let n : c.args.at + 36 - (c.args.at + 32) ≡ 4 = omega arith in
     c.put_sample.ensures
-    ∙ rw (l, n, bytes_there s.args.file.now (s.args.at + 16) 12 (omega arith), bytes_there s.args.file.now (s.args.at + 32) 4 (omega arith), c.low_bit.ensures, eq-eqb _ _ c.if-kind-eq1.true)
+    ∙ rw (l, n, bytes_there c.args.file.now (c.args.at + 16) 12 (omega arith), bytes_there c.args.file.now (c.args.at + 32) 4 (omega arith), c.low_bit.ensures, eq-eqb _ _ c.if-kind-eq1.true)
 
 pub returns-then-kind : goal.returns-then-kind
 unfolding header_sample
 returns-then-kind c =
-    let s = c in
-    let n : s.args.at + 36 - (s.args.at + 32) ≡ 4 = omega arith in
+    let n : c.args.at + 36 - (c.args.at + 32) ≡ 4 = omega arith in
     c.put_sample-then-kind.ensures
-    ∙ rw (n, bytes_there s.args.file.now (s.args.at + 32) 4 (omega arith), ne_eqb _ _ c.if-kind-eq1.false, c.if-kind.true)
+    ∙ rw (n, bytes_there c.args.file.now (c.args.at + 32) 4 (omega arith), ne_eqb _ _ c.if-kind-eq1.false, c.if-kind.true)
 
 pub returns : goal.returns
 unfolding header_sample

@@ -17,21 +17,18 @@ loop-k-init c = (omega arith, search rules, refl)
 pub put_instrument-requires : goal.put_instrument-requires
 unfolding instruments_past
 put_instrument-requires c =
-    let s = c in
     let u = c.u16_at-pointer.ensures in
-    let e = some_absent (λ i. instrument_past s.args.file.now (pointer_at s.args.file.now s.args.list i)) s.args.n c.loop-k.k c.loop-k-test.true s.requires.there in
-    (omega (arith, c.put_instrument-arg-1.given.2), u.1, ap (instrument_past s.args.file.now) u.0 ∙ e)
+    let e = some_absent (λ i. instrument_past c.args.file.now (pointer_at c.args.file.now c.args.list i)) c.args.n c.loop-k.k c.loop-k-test.true c.requires.there in
+    (omega (arith, c.put_instrument-arg-1.given.2), u.1, ap (instrument_past c.args.file.now) u.0 ∙ e)
 
 pub loop-k-preserved : goal.loop-k-preserved
 loop-k-preserved c =
-    let s = c in
     let l = c.loop-k in
-    let sample = c.put_instrument.ensures ∙ ap (instrument_sample s.args.file.now) c.u16_at-pointer.ensures.0 in
-    (omega arith, search rules, pieces_grow (λ i. instrument_sample s.args.file.now (pointer_at s.args.file.now s.args.list i)) 20 (λ i. length-instrument _ _) s.args.samples.now l.k l.invariant.2 sample)
+    let sample = c.put_instrument.ensures ∙ ap (instrument_sample c.args.file.now) c.u16_at-pointer.ensures.0 in
+    (omega arith, search rules, pieces_grow (λ i. instrument_sample c.args.file.now (pointer_at c.args.file.now c.args.list i)) 20 (λ i. length-instrument _ _) c.args.samples.now l.k l.invariant.2 sample)
 
 pub returns : goal.returns
 unfolding samples_of
 returns c =
-    let s = c in
     let l = c.loop-k in
-    pieces_done (λ i. instrument_sample s.args.file.now (pointer_at s.args.file.now s.args.list i)) 20 s.args.samples.now l.k s.args.n (omega arith) (omega arith) l.invariant.2
+    pieces_done (λ i. instrument_sample c.args.file.now (pointer_at c.args.file.now c.args.list i)) 20 c.args.samples.now l.k c.args.n (omega arith) (omega arith) l.invariant.2

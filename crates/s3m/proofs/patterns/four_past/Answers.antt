@@ -6,15 +6,13 @@ use Rattle.s3m.proofs.patterns.four_past.Goals as goal
 
 pub returns-then-a-b : goal.returns-then-a-b
 returns-then-a-b c =
-    let u = c in
-    let a = u.args in
+    let a = c.args in
     (λ j. c.pattern_past.ensures j || c.pattern_past-then-a-b.ensures j || c.pattern_past-then-a-b-2.ensures j || c.pattern_past-then-a-b-3.ensures j)
-    ∙ four_pointers a.file.now a.list a.k u.u16_at-a.ensures.0 u.u16_at-b.ensures.0 u.u16_at-c.ensures.0 u.u16_at-d.ensures.0
+    ∙ four_pointers a.file.now a.list a.k c.u16_at-a.ensures.0 c.u16_at-b.ensures.0 c.u16_at-c.ensures.0 c.u16_at-d.ensures.0
 
 pub returns : goal.returns
 returns c =
-    let u = c in
-    let a = u.args in
+    let a = c.args in
     c.any_runs_past.ensures
     ∙ four_named a.file.now _ _ _ _ c.if-a-b.false
-    ∙ four_pointers a.file.now a.list a.k u.u16_at-a.ensures.0 u.u16_at-b.ensures.0 u.u16_at-c.ensures.0 u.u16_at-d.ensures.0
+    ∙ four_pointers a.file.now a.list a.k c.u16_at-a.ensures.0 c.u16_at-b.ensures.0 c.u16_at-c.ensures.0 c.u16_at-d.ensures.0

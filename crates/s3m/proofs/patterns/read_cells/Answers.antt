@@ -15,14 +15,12 @@ loop-k-init c = (omega arith, search rules, refl)
 
 pub loop-k-preserved : goal.loop-k-preserved
 loop-k-preserved c =
-    let s = c in
     let l = c.loop-k in
-    let sample = c.put_pattern.ensures ∙ ap (pattern_cells s.args.file.now) c.u16_at-pointer.ensures.0 in
-    (omega arith, search rules, pieces_grow (λ i. pattern_cells s.args.file.now (pointer_at s.args.file.now s.args.list i)) 10240 (λ i. length-pattern _ _) s.args.cells.now l.k l.invariant.2 sample)
+    let sample = c.put_pattern.ensures ∙ ap (pattern_cells c.args.file.now) c.u16_at-pointer.ensures.0 in
+    (omega arith, search rules, pieces_grow (λ i. pattern_cells c.args.file.now (pointer_at c.args.file.now c.args.list i)) 10240 (λ i. length-pattern _ _) c.args.cells.now l.k l.invariant.2 sample)
 
 pub returns : goal.returns
 unfolding cells_of
 returns c =
-    let s = c in
     let l = c.loop-k in
-    pieces_done (λ i. pattern_cells s.args.file.now (pointer_at s.args.file.now s.args.list i)) 10240 s.args.cells.now l.k s.args.n (omega arith) (omega arith) l.invariant.2
+    pieces_done (λ i. pattern_cells c.args.file.now (pointer_at c.args.file.now c.args.list i)) 10240 c.args.cells.now l.k c.args.n (omega arith) (omega arith) l.invariant.2

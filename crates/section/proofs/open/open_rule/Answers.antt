@@ -7,13 +7,13 @@ use Rattle.section.proofs.open.open_rule.Goals as goal
 pub returns : goal.returns
 unfolding open_rule
 returns c =
-    let known = c in record {
+    record {
       answer = simp (← c.sizes_rule.ensures, ← c.opening_rule.ensures, ← c.first_of.ensures);
       typed = (
         record {
-          cells = λ k. omega (arith, known.type_inv.cells k);
-          samples = λ k. omega (arith, known.type_inv.samples k);
+          cells = λ k. omega (arith, c.type_inv.cells k);
+          samples = λ k. omega (arith, c.type_inv.samples k);
         },
-        opening_typed _ _ known.well_formed.1.1.1.0,
+        opening_typed _ _ c.well_formed.1.1.1.0,
       );
     }

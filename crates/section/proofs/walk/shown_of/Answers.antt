@@ -13,15 +13,13 @@ loop-i-init c = (search rules, search rules, search rules, sym (no_channels c.ar
 
 pub put_channel-requires : goal.put_channel-requires
 put_channel-requires c =
-    let l = c in
-    let h : l.loop-i.i < length l.args.channels = omega arith in
-    let n = channels_whole l.args.channels l.requires _ l.loop-i.i h in
+    let h : c.loop-i.i < length c.args.channels = omega arith in
+    let n = channels_whole c.args.channels c.requires _ c.loop-i.i h in
     (omega arith, n.frequency, n.target)
 
 pub loop-i-preserved : goal.loop-i-preserved
 loop-i-preserved c =
-    let l = c in
-    let h : l.loop-i.i < length l.args.channels = omega arith in
-    let b : l.loop-i.i * 16 + 16 ≤ length l.loop-i.shown = omega arith in
-    let g = bytes_grow l.args.channels l.loop-i.i _ l.loop-i.shown _ h b l.loop-i.invariant.3 c.put_channel.ensures in
-    (omega arith, l.loop-i.invariant.1, g.0 ∙ l.loop-i.invariant.2, g.1)
+    let h : c.loop-i.i < length c.args.channels = omega arith in
+    let b : c.loop-i.i * 16 + 16 ≤ length c.loop-i.shown = omega arith in
+    let g = bytes_grow c.args.channels c.loop-i.i _ c.loop-i.shown _ h b c.loop-i.invariant.3 c.put_channel.ensures in
+    (omega arith, c.loop-i.invariant.1, g.0 ∙ c.loop-i.invariant.2, g.1)

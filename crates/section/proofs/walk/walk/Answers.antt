@@ -12,12 +12,11 @@ pub shown_of-shown-requires : goal.shown_of-shown-requires
 shown_of-shown-requires c = whole_channels _ _ _ _ c.requires
 
 pub loop-rows-init : goal.loop-rows-init
-loop-rows-init c =
-    let a = c in (
-      round_start (ready _ _ _ _ a.requires) (state_typed a.args.s _ a.well_formed.1.1.1.0).channels (state_typed a.args.s _ a.well_formed.1.1.1.0).infos,
-      c.shown_of-shown.ensures,
-      c.rests_of-rests.ensures,
-    )
+loop-rows-init c = (
+  round_start (ready _ _ _ _ c.requires) (state_typed c.args.s _ c.well_formed.1.1.1.0).channels (state_typed c.args.s _ c.well_formed.1.1.1.0).infos,
+  c.shown_of-shown.ensures,
+  c.rests_of-rests.ensures,
+)
 
 pub returns-then-path : goal.returns-then-path
 returns-then-path c =
@@ -26,8 +25,7 @@ returns-then-path c =
 
 pub returns-then-here : goal.returns-then-here
 returns-then-here c =
-    let e = c in
-    let q = round_stopped e.loop-rows.invariant.0 _ _ e.loop-rows-test.true e.if-path.false e.enter-e.ensures c.if-here.true c.given-then-here.ensures in
+    let q = round_stopped c.loop-rows.invariant.0 _ _ c.loop-rows-test.true c.if-path.false c.enter-e.ensures c.if-here.true c.given-then-here.ensures in
     record { answer = q.0; written = q.1 }
 
 pub row_cells-row-requires : goal.row_cells-row-requires
@@ -48,19 +46,16 @@ loop-i-preserved-then-is_quiet_at-rests c =
 
 pub put_channel-requires : goal.put_channel-requires
 put_channel-requires c =
-    let u = c in
-    let v = u.loop-i.invariant in
-    let t = u.loop-i-test.true in
+    let v = c.loop-i.invariant in
+    let t = c.loop-i-test.true in
     let h = enter_number v.0 _ _ _ t (v.1 t) c.cell_of-cell.ensures c.enter_channel-played.ensures in
     (omega (arith, shown_size v.0, t), h.frequency, h.target)
 
 pub loop-i-preserved : goal.loop-i-preserved
 loop-i-preserved c =
-    let p = c in
-    let u = p in
-    let v = u.loop-i.invariant in
-    let t = u.loop-i-test.true in (
-      visit_enter v.0 _ _ _ _ _ _ _ t (v.1 t) p.cell_of-cell.ensures p.enter_channel-played.ensures c.put_channel.ensures
+    let v = c.loop-i.invariant in
+    let t = c.loop-i-test.true in (
+      visit_enter v.0 _ _ _ _ _ _ _ t (v.1 t) c.cell_of-cell.ensures c.enter_channel-played.ensures c.put_channel.ensures
           c.is_at_rest.ensures c.mark-strikes.ensures c.hear_volume-waiting.ensures,
       λ h. v.1 (omega arith),
     )
@@ -70,11 +65,9 @@ put_head-requires c =
     let entry = round_entry c.loop-rows.invariant.0 _ c.enter-e.ensures c.if-here.false in
     let v = c.loop-rows.invariant.0 in
     let room : c.loop-rows.rows * 536 + 536 ≤ length c.loop-rows.output = omega (arith, v.room, round_room v, c.loop-rows-test.true) in
-    let u = c in
-    let e = u in
-    let l = e.loop-rows in
+    let l = c.loop-rows in
     let put = c.copy_whole in
-    (omega (arith, (visit_put u.loop-i.invariant.0 (l.rows * 536) l.output put.new.part room put.ensures).1, room), entry.tempo, entry.rate)
+    (omega (arith, (visit_put c.loop-i.invariant.0 (l.rows * 536) l.output put.new.part room put.ensures).1, room), entry.tempo, entry.rate)
 
 pub leave-path-requires : goal.leave-path-requires
 leave-path-requires c =
@@ -85,15 +78,12 @@ pub loop-rows-preserved : goal.loop-rows-preserved
 loop-rows-preserved c =
     let v = c.loop-rows.invariant.0 in
     let room : c.loop-rows.rows * 536 + 536 ≤ length c.loop-rows.output = omega (arith, v.room, round_room v, c.loop-rows-test.true) in
-    let u = c in
-    let w = u.loop-i.invariant.0 in
-    let e = u in
-    let n = e in
+    let w = c.loop-i.invariant.0 in
     let put = c.copy_whole in
-    let played = played_row _ _ _ _ _ _ u.row_cells-row.ensures.0 (visit_row w c.loop-i-test.false) in
+    let played = played_row _ _ _ _ _ _ c.row_cells-row.ensures.0 (visit_row w c.loop-i-test.false) in
     let written = visit_record w _ _ _ _ _ room (visit_put w _ _ _ room put.ensures).0 c.put_head.ensures in (
-      round_next n.loop-rows.invariant.0 _ _ (record { channels = u.loop-i.channels; strikes = u.loop-i.strikes; global_volume = u.loop-i.waiting }) _
-          n.loop-rows-test.true n.if-path.false n.enter-e.ensures e.if-here.false c.leave-path.ensures.value c.leave-path.ensures.within played w.count w.numbers written,
+      round_next c.loop-rows.invariant.0 _ _ (record { channels = c.loop-i.channels; strikes = c.loop-i.strikes; global_volume = c.loop-i.waiting }) _
+          c.loop-rows-test.true c.if-path.false c.enter-e.ensures c.if-here.false c.leave-path.ensures.value c.leave-path.ensures.within played w.count w.numbers written,
       w.bytes,
       w.flags,
     )

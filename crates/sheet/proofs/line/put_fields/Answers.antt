@@ -8,21 +8,17 @@ use Rattle.sheet.proofs.line.put_fields.Goals as goal
 
 pub put_field-at-requires : goal.put_field-at-requires
 put_field-at-requires c =
-    let s = c in
-    let n : length s.args.fields ≡ 9 = search rules in
-    written_room c.loop-i.invariant n s.requires (omega (arith, c.loop-i-test.true))
+    let n : length c.args.fields ≡ 9 = search rules in
+    written_room c.loop-i.invariant n c.requires (omega (arith, c.loop-i-test.true))
 
 pub loop-i-preserved : goal.loop-i-preserved
 loop-i-preserved c =
-    let l = c in
-    let s = l in
-    let n : length s.args.fields ≡ 9 = search rules in
+    let n : length c.args.fields ≡ 9 = search rules in
     let p = c.put_field-at in
-    written_next l.loop-i.invariant n s.requires (omega (arith, c.loop-i-test.true)) c.mark_at.ensures p.ensures.value p.ensures.out_after
+    written_next c.loop-i.invariant n c.requires (omega (arith, c.loop-i-test.true)) c.mark_at.ensures p.ensures.value p.ensures.out_after
 
 pub returns : goal.returns
 returns c =
-    let s = c in
-    let n : length s.args.fields ≡ 9 = search rules in
-    let q = written_done c.loop-i.invariant n s.requires (omega (arith, c.loop-i-test.false)) in
+    let n : length c.args.fields ≡ 9 = search rules in
+    let q = written_done c.loop-i.invariant n c.requires (omega (arith, c.loop-i-test.false)) in
     record { value = q.0; out_after = q.1 }
