@@ -1,7 +1,7 @@
 #!/usr/bin/env python3
 """Runs the scripts as a user would, and looks at what they print, what they say on standard error and their exit status.
 
-`rt` and `cargo` are stand-ins here: nothing is proved or compiled. ./sheet runs the rowsheet that `rt ci` built.
+`rt` and `cargo` are stand-ins here: nothing is proved or compiled. ./sheet runs the rowsheet that `./prove` built.
 """
 import os
 import pathlib
@@ -148,6 +148,7 @@ def linked_cases(tools, folder):
     stand_in(tools, "valgrind", "")
     for script in ("bench/run", "bench/count", "compare/run"):
         def asked(*words, **settings):
+            shutil.rmtree(repository / "target", ignore_errors=True)
             return run(repository / script, *words, here=folder, tools=tools, **{"LOMQASHE_ORIGINAL": "original", **settings})
 
         named = f"archive {folder}/archive, original {original}"

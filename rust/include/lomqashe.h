@@ -3,7 +3,7 @@
  *
  * Eleven functions over numbers and bytes, in the archive target/staticlib/liblomqashe.a that
  * `./prove staticlib lomqashe` writes. Each result, and every byte written, is proved equal to a
- * definition that the function's contract in crates/lomqashe/src/lib.rt names, for all inputs: no
+ * definition that the function's contract in crates/lomqashe_c/src/lib.rt names, for all inputs: no
  * length and no value is a mistake that a function doesn't answer. They keep nothing between calls,
  * allocate nothing, call nothing but memcpy and memset, and may be called from several threads at
  * once.

@@ -1,4 +1,4 @@
-//! The exported functions of crates/lomqashe. They ask nothing of a caller but that each slice
+//! The exported functions of crates/lomqashe_c. They ask nothing of a caller but that each slice
 //! is alive, and write only into the slices that they are lent. A slice is passed as a pointer
 //! and then a length. include/lomqashe.h says what each does.
 
