@@ -60,7 +60,7 @@ fn strip(input: &[u8], m: usize, out: &mut [u8], c: usize, s: usize, e: usize, s
     requires sized { Sized m input.now out.old × (c + 8 ≤ 536) × (1 ≤ s) × (s ≤ e) × (17 ≤ e) × (e ≤ m) }
     requires strip { Strip (place_of storing m) (made_at storing input.now m) out.old c s }
     ensures stays { Stays (made_at storing input.now m) out.old out.new }
-    ensures strip_2 { Strip (place_of storing m) (made_at storing input.now m) out.new c e }
+    ensures made { Strip (place_of storing m) (made_at storing input.now m) out.new c e }
 {
     let mut r = s;
     while r < e {

@@ -14,5 +14,5 @@ loop-c-preserved c =
       omega (arith, l.invariant.1),
       search rules,
       λ k h r j. t.ensures.stays (place_of a.storing a.m k r) (l.invariant.3 k h r j),
-      block_more (place_of a.storing a.m) (made_at a.storing a.input.now a.m) l.out t.new.out t.ensures.stays l.c a.e t.ensures.strip_2 l.invariant.4,
+      block_more (place_of a.storing a.m) (made_at a.storing a.input.now a.m) l.out t.new.out t.ensures.stays l.c a.e t.ensures.made l.invariant.4,
     )
