@@ -10,10 +10,9 @@ mod tally;
 
 use std::fs::File;
 use std::io;
-use std::io::BufReader;
 
 fn main(rt: HostRuntime) -> io::Result<()> {
-    let mut list = BufReader::new(rt.alloc(), File::open(&rt, "calls")?)?;
+    let mut list = File::open(&rt, "calls")?;
     let mut counters = tally::counters();
     let counts: &mut [u64] = &mut counters;
     let whole = cases::run(&mut list, counts);
