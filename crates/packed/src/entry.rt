@@ -5,20 +5,24 @@ ghost use Rattle.laws.specs.Masks.{bit_of};
 ghost use Rattle.packed.specs.Entry.{channel_of, entry_bytes, entry_cell};
 ghost use Rattle.packed.specs.Entry as spec;
 
-use tune::numbers::{u64_at, wide};
+use tune::numbers::u64_at;
 
 // The byte of the file at a place, 0 past its end.
 pub fn byte_at(file: &[u8], at: usize) -> u8
     ensures { result ≡ get_or file.now at 0 }
 {
-    if at < file.len() { file[at] } else { 0 }
+    file.get(at).copied().unwrap_or(0)
 }
 
 // The same as a wider number: where the next byte stands is worked out from it, and widening costs a step each time.
 pub fn wide_at(file: &[u8], at: usize) -> usize
     ensures { (result ≡ get_or file.now at 0) × (result < 256) }
 {
-    if at < file.len() { wide(file[at]) } else { 0 }
+    if at < file.len() {
+        usize::from(file[at])
+    } else {
+        0
+    }
 }
 
 // Bits 0 to 4 of an entry's first byte.
@@ -48,20 +52,18 @@ pub fn entry_bytes(b: usize) -> usize
 pub fn rows_ended(b: usize) -> usize
     ensures { (result ≡ pick (eqb b 0) 1 0) × (result < 2) }
 {
-    if b == 0 { 1 } else { 0 }
+    usize::from(b == 0)
 }
 
 // The byte of the file at a place where the bit is set, else what an unnamed cell has there.
 fn named(bit: usize, file: &[u8], at: usize, unnamed: u8) -> u8
     ensures { result ≡ spec.named bit file.now at unnamed }
 {
-    if bit == 0 {
-        return unnamed;
-    }
-    byte_at(file, at)
+    if bit == 0 { unnamed } else { byte_at(file, at) }
 }
 
 // The cell that the entry at `at` gives, byte by byte: for the last entries of a file.
+#[tactic(auto, unfolding(crate::specs::Entry::entry_cell))]
 fn cell_by_bytes(file: &[u8], at: usize, b: usize) -> [u8; 5]
     requires { at + 5 < 2 ^ 64 }
     ensures { result ≡ entry_cell file.now at b }
@@ -78,7 +80,7 @@ fn cell_by_bytes(file: &[u8], at: usize, b: usize) -> [u8; 5]
     ]
 }
 
-// The first number where the bit is set, else the second.
+// The first number where the bit is set, else the second: an `if` in each line of the cell would be no plainer.
 fn either(bit: usize, set: u64, unset: u64) -> u64
     ensures { result ≡ pick (eqb bit 0) unset set }
 {

@@ -9,7 +9,10 @@ ghost use Rattle.laws.specs.Entries.{pieces};
 ghost use Rattle.packed.specs.Entry.{empty_cell};
 ghost use Rattle.packed.specs.Unpacking.{step_place, step_cells, runs_past, empty_pattern, unpacked};
 
-use tune::parts::{copy_whole, put_at};
+use tune::parts::put_at;
+
+// The cells of a pattern: 64 rows of 32 channels, five bytes each.
+pub type Pattern = [u8; 10240];
 
 // Where the unpacking stands: the next byte of the file, and the row.
 #[derive(Clone, Copy)]
@@ -18,36 +21,38 @@ pub struct Place {
     pub row: usize,
 }
 
-// The place behind the 0 or the entry at `at`.
-fn next_place(file: &[u8], at: usize, row: usize) -> Place
-    requires { (row < 64) × (at + 6 < 2 ^ 64) }
-    ensures { result ≡ step_place file.now at row }
+// The place behind the 0 or the entry at p.
+fn next_place(file: &[u8], p: Place) -> Place
+    requires { (p.row < 64) × (p.at + 6 < 2 ^ 64) }
+    ensures { result ≡ step_place file.now p.at p.row }
 {
     // A 0 takes one byte too, so no branch is needed.
-    let b = entry::wide_at(file, at);
+    let b = entry::wide_at(file, p.at);
     Place {
-        at: at + entry::entry_bytes(b),
-        row: row + entry::rows_ended(b),
+        at: p.at + entry::entry_bytes(b),
+        row: p.row + entry::rows_ended(b),
     }
 }
 
-// The cells and the place behind the 0 or the entry at `at`.
-fn put_step(file: &[u8], at: usize, row: usize, cells: &mut [u8]) -> Place
-    requires { (row < 64) × (at + 9 < 2 ^ 64) × (length cells.old ≡ 10240) }
-    ensures place { result ≡ step_place file.now at row }
-    ensures written { cells.new ≡ step_cells file.now at row cells.old }
+// The cells and the place behind the 0 or the entry at p.
+fn put_step(file: &[u8], p: Place, cells: &mut Pattern) -> Place
+    requires { (p.row < 64) × (p.at + 9 < 2 ^ 64) }
+    ensures place { result ≡ step_place file.now p.at p.row }
+    ensures written { cells.new ≡ step_cells file.now p.at p.row cells.old }
 {
-    let b = entry::wide_at(file, at);
+    let b = entry::wide_at(file, p.at);
     if b == 0 {
         return Place {
-            at: at + 1,
-            row: row + 1,
+            at: p.at + 1,
+            row: p.row + 1,
         };
     }
-    let cell = entry::entry_cell(file, at, b);
-    put_at(cells, row * 160 + entry::channel_of(b) * 5, &cell);
-    let n = entry::entry_bytes(b);
-    Place { at: at + n, row }
+    let cell = entry::entry_cell(file, p.at, b);
+    put_at(cells, p.row * 160 + entry::channel_of(b) * 5, &cell);
+    Place {
+        at: p.at + entry::entry_bytes(b),
+        ..p
+    }
 }
 
 // Whether the pattern at `at` runs past the file before its 64th row ends (rule 8).
@@ -55,14 +60,11 @@ pub fn runs_past(file: &[u8], at: usize) -> bool
     requires { at < 2 ^ 32 }
     ensures { result ≡ runs_past file.now at }
 {
-    let mut i = at;
-    let mut row: usize = 0;
-    while row < 64 {
-        let p = next_place(file, i, row);
-        i = p.at;
-        row = p.row;
+    let mut p = Place { at, row: 0 };
+    while p.row < 64 {
+        p = next_place(file, p);
     }
-    file.len() < i
+    file.len() < p.at
 }
 
 // A row of cells that no entry names.
@@ -70,11 +72,9 @@ fn empty_row() -> [u8; 160]
     ensures { result ≡ pieces 32 (λ k. empty_cell) }
 {
     let empty: [u8; 5] = [255, 0, 255, 0, 0];
-    let mut row: [u8; 160] = [0; 160];
-    let mut k: usize = 0;
-    while k < 32 {
+    let mut row = [0; 160];
+    for k in 0..32 {
         put_at(&mut row, k * 5, &empty);
-        k += 1;
     }
     row
 }
@@ -85,13 +85,13 @@ fn go_on(file: &[u8], p: Place) -> Place
     ensures { result ≡ pick (ltb p.row 64) (step_place file.now p.at p.row) p }
 {
     if p.row < 64 {
-        return next_place(file, p.at, p.row);
+        return next_place(file, p);
     }
     p
 }
 
 // Whether one of four patterns runs past the file. A step waits for the byte that says where the next one is; four
-// patterns wait side by side.
+// patterns wait side by side, so the four places are variables, which stay in registers, and no array.
 pub fn any_runs_past(file: &[u8], a: usize, b: usize, c: usize, d: usize) -> bool
     requires { (a < 2 ^ 32) × (b < 2 ^ 32) × (c < 2 ^ 32) × (d < 2 ^ 32) }
     ensures { result ≡ runs_past file.now a || runs_past file.now b || runs_past file.now c || runs_past file.now d }
@@ -111,30 +111,24 @@ pub fn any_runs_past(file: &[u8], a: usize, b: usize, c: usize, d: usize) -> boo
 }
 
 // Fills a pattern's cells with what a cell has that no entry names, row by row.
-pub fn fill_empty(cells: &mut [u8])
-    requires { length cells.old ≡ 10240 }
+pub fn fill_empty(cells: &mut Pattern)
     ensures { cells.new ≡ empty_pattern }
 {
     let row = empty_row();
-    let mut r: usize = 0;
-    while r < 64 {
+    for r in 0..64 {
         let from = r * 160;
-        copy_whole(&mut cells[from..from + 160], &row);
-        r += 1;
+        cells[from..from + 160].copy_from_slice(&row);
     }
 }
 
 // Unpacks the pattern at `at` into its own stretch of the cells.
-pub fn unpack(file: &[u8], at: usize, cells: &mut [u8])
-    requires { (at < 2 ^ 32) × (length cells.old ≡ 10240) }
+pub fn unpack(file: &[u8], at: usize, cells: &mut Pattern)
+    requires { at < 2 ^ 32 }
     ensures { cells.new ≡ unpacked file.now at }
 {
     fill_empty(cells);
-    let mut i = at;
-    let mut row: usize = 0;
-    while row < 64 {
-        let p = put_step(file, i, row, cells);
-        i = p.at;
-        row = p.row;
+    let mut p = Place { at, row: 0 };
+    while p.row < 64 {
+        p = put_step(file, p, cells);
     }
 }

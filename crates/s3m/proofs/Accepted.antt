@@ -13,13 +13,13 @@ use Rattle.laws.specs.Choice.{pick}
 use Rattle.laws.specs.Refusals.{Said, said}
 use Rattle.laws.proofs.Picks.{and_true, or_false}
 use Rattle.laws.proofs.Rules.{sound, kept, not_zero}
+use Rattle.std.specs.Prelude.{Result, Ok}
 use Rattle.tune.specs.Opening.{levels_broken}
+use Rattle.tune.specs.Rules.{says}
+use Rattle.tune.specs.declared.rules.Refusal.{Refusal}
 use Rattle.s3m.specs.Layout.{counts_of, instruments_at, pans_place, has_pans, lists_end}
 use Rattle.s3m.specs.Instruments.{instruments_past}
 use Rattle.s3m.specs.declared.header.Counts.{Counts}
-use Rattle.s3m.specs.declared.header.Measured.{Measured}
-use Rattle.s3m.specs.declared.header.Measured.TheVariants.{Found}
-use Rattle.s3m.specs.Answers.{measured_says}
 use Rattle.s3m.specs.Refusals.{rule1, rule2, rule3, rule4, rule5, rule6, rule7, rule8, header_rule, measure_rule, filling_rule, read_rule}
 
 pub record Accepted (s : List ℕ) : Type 0 where
@@ -106,11 +106,11 @@ ready s c orders samples cells e r =
     })
 
 -- the same of counts that Measure finds
-pub found_listed : (s : List ℕ) (c : Counts) {m : Measured} → m ≡ Found c → measured_says m ≡ said (measure_rule s) (counts_of s) → Listed s c
+pub found_listed : (s : List ℕ) (c : Counts) {m : Result Counts Refusal} → m ≡ Ok c → says m ≡ said (measure_rule s) (counts_of s) → Listed s c
 found_listed s c e m =
-    let says = ap measured_says (sym e) ∙ m in
-    let zero = sym (ap (λ (x : Said Counts). x.number) says) in
-    let values : some c ≡ some (counts_of s) = ap (λ (x : Said Counts). x.values) says ∙ rw zero in
+    let answer = ap says (sym e) ∙ m in
+    let zero = sym (ap (λ (x : Said Counts). x.number) answer) in
+    let values : some c ≡ some (counts_of s) = ap (λ (x : Said Counts). x.values) answer ∙ rw zero in
     listed s c (ap counts values) zero
   where
     counts : Option Counts → Counts

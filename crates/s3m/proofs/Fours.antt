@@ -14,18 +14,12 @@ use Rattle.s3m.specs.Layout.{pointer_at}
 use Rattle.s3m.specs.Patterns.{pattern_past}
 
 -- numbers k to k + 3
-pub four_pointers : (s : List ℕ) (list k : ℕ) {a b c d : ℕ} → a ≡ little_at 2 s (list + k * 2) → b ≡ little_at 2 s (list + k * 2 + 2) → c ≡ little_at 2 s (list + k * 2 + 4) → d ≡ little_at 2 s (list + k * 2 + 6)
+pub four_pointers : (s : List ℕ) (list k : ℕ) {a b c d : ℕ} → a ≡ pointer_at s list k → b ≡ pointer_at s list (k + 1) → c ≡ pointer_at s list (k + 2) → d ≡ pointer_at s list (k + 3)
     → (pattern_past s a || pattern_past s b || pattern_past s c || pattern_past s d) ≡ some 4 (λ j. pattern_past s (pointer_at s list (k + j)))
 unfolding some
 four_pointers s list k ea eb ec ed =
-    let p0 : list + k * 2 ≡ list + (k + 0) * 2 = omega arith in
-    let p1 : list + k * 2 + 2 ≡ list + (k + 1) * 2 = omega arith in
-    let p2 : list + k * 2 + 4 ≡ list + (k + 2) * 2 = omega arith in
-    let p3 : list + k * 2 + 6 ≡ list + (k + 3) * 2 = omega arith in
-    λ i. pattern_past s ((ea ∙ moved p0) i) || pattern_past s ((eb ∙ moved p1) i) || pattern_past s ((ec ∙ moved p2) i) || pattern_past s ((ed ∙ moved p3) i)
-  where
-    moved : {m n : ℕ} → m ≡ n → little_at 2 s m ≡ little_at 2 s n
-    moved p = ap (λ (z : ℕ). little_at 2 s z) p
+    let first : k ≡ k + 0 = omega arith in
+    λ i. pattern_past s ((ea ∙ ap (pointer_at s list) first) i) || pattern_past s (eb i) || pattern_past s (ec i) || pattern_past s (ed i)
 
 named : (s : List ℕ) (a : ℕ) → eqb a 0 ≡ false → runs_past s (a * 16 + 2) ≡ pattern_past s a
 named s a e = sym (ap (λ (b : Bool). pick b false (runs_past s (a * 16 + 2))) e)

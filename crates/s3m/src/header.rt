@@ -1,107 +1,132 @@
 // The header and the lists behind it: counts, and rules 1 to 5.
-ghost use Rattle.std.specs.Prelude.{◌≡◌, ◌≤◌, ◌<◌, length};
+ghost use Rattle.std.specs.Prelude.{◌≡◌, ◌≤◌, ◌<◌, length, ◌+◌, ◌*◌};
 ghost use Rattle.laws.specs.Refusals.{said};
-ghost use Rattle.s3m.specs.Layout.{counts_of, lists_end};
+ghost use Rattle.s3m.specs.Layout.{counts_of, instruments_at, patterns_at, pans_place, pointer_at, lists_end};
 ghost use Rattle.s3m.specs.Refusals.{rule2, rule3, rule4, rule5, header_rule, measure_rule};
-ghost use Rattle.s3m.specs.Answers.{measured, measured_says};
+ghost use Rattle.tune.specs.Rules.{verdict, says};
 
-use tune::numbers::u16_at;
+use tune::numbers::bytes_at;
 use tune::opening::levels_broken;
-use tune::refusals::{first_of, refusal};
+use tune::rules::{Refusal, refuse_if};
 
 #[derive(Clone, Copy)]
 pub struct Counts {
-    pub orders: usize,
-    pub instruments: usize,
-    pub patterns: usize,
+    pub orders: u16,
+    pub instruments: u16,
+    pub patterns: u16,
 }
 
-#[derive(Clone, Copy)]
-pub enum Measured {
-    Found(Counts),
-    Refused(u8),
-}
+// Where the lists behind the header stand.
+impl Counts {
+    pub fn instruments_at(self) -> usize
+        ensures { result ≡ instruments_at self }
+    {
+        96 + usize::from(self.orders)
+    }
 
-// The counts, each of 16 bits.
-pub fn counts_of(file: &[u8]) -> Counts
-    requires { 96 ≤ length file.now }
-    ensures value { result ≡ counts_of file.now }
-    ensures small { (result.orders < 65536) × (result.instruments < 65536) × (result.patterns < 65536) }
-{
-    Counts {
-        orders: u16_at(file, 32),
-        instruments: u16_at(file, 34),
-        patterns: u16_at(file, 36),
+    pub fn patterns_at(self) -> usize
+        ensures { result ≡ patterns_at self }
+    {
+        self.instruments_at() + usize::from(self.instruments) * 2
+    }
+
+    pub fn pans_at(self) -> usize
+        ensures { result ≡ pans_place self }
+    {
+        self.patterns_at() + usize::from(self.patterns) * 2
     }
 }
 
-fn mark_rule(file: &[u8]) -> u8
+// The counts, each of 16 bits. That the header is there stays a fact about the file: the rules and counts are of the file's
+// bytes, and with a header of a type of its own each contract would name two places for one.
+pub fn counts_of(file: &[u8]) -> Counts
     requires { 96 ≤ length file.now }
-    ensures { result ≡ rule2 file.now }
+    ensures { result ≡ counts_of file.now }
 {
-    let there = (file[44] == b'S') & (file[45] == b'C') & (file[46] == b'R') & (file[47] == b'M');
-    refusal(2, !there)
+    Counts {
+        orders: u16::from_le_bytes(bytes_at(file, 32)),
+        instruments: u16::from_le_bytes(bytes_at(file, 34)),
+        patterns: u16::from_le_bytes(bytes_at(file, 36)),
+    }
 }
 
-fn counts_rule(c: Counts) -> u8
-    ensures { result ≡ rule3 c }
+// Pointer k of a list, of 16 bits each.
+pub fn pointer_at(file: &[u8], list: usize, k: usize) -> u16
+    requires { list + (k + 1) * 2 ≤ length file.now }
+    ensures { result ≡ pointer_at file.now list k }
 {
-    refusal(
-        3,
-        (c.orders == 0) | (255 < c.orders) | (99 < c.instruments) | (100 < c.patterns),
-    )
+    u16::from_le_bytes(bytes_at(file, list + k * 2))
+}
+
+fn check_mark(file: &[u8]) -> Result<(), Refusal>
+    requires { 96 ≤ length file.now }
+    ensures { verdict result ≡ rule2 file.now }
+{
+    let there = (file[44] == b'S') & (file[45] == b'C') & (file[46] == b'R') & (file[47] == b'M');
+    refuse_if(!there, Refusal::NoMark)
+}
+
+fn check_counts(c: Counts) -> Result<(), Refusal>
+    ensures { verdict result ≡ rule3 c }
+{
+    let broken = (c.orders == 0) | (255 < c.orders) | (99 < c.instruments) | (100 < c.patterns);
+    refuse_if(broken, Refusal::Counts)
 }
 
 fn lists_end(file: &[u8], c: Counts) -> usize
-    requires { (96 ≤ length file.now) × (c.orders < 65536) × (c.instruments < 65536) × (c.patterns < 65536) }
+    requires { 96 ≤ length file.now }
     ensures { result ≡ lists_end file.now c }
 {
-    let pans = 96 + c.orders + c.instruments * 2 + c.patterns * 2;
+    let pans = c.pans_at();
     if file[53] == 252 { pans + 32 } else { pans }
 }
 
-fn lists_rule(file: &[u8], c: Counts) -> u8
-    requires { (96 ≤ length file.now) × (c.orders < 65536) × (c.instruments < 65536) × (c.patterns < 65536) }
-    ensures { result ≡ rule4 file.now c }
+fn check_lists(file: &[u8], c: Counts) -> Result<(), Refusal>
+    requires { 96 ≤ length file.now }
+    ensures { verdict result ≡ rule4 file.now c }
 {
-    refusal(4, file.len() < lists_end(file, c))
+    refuse_if(file.len() < lists_end(file, c), Refusal::Lists)
 }
 
-fn levels_rule(file: &[u8]) -> u8
+fn check_levels(file: &[u8]) -> Result<(), Refusal>
     requires { 96 ≤ length file.now }
-    ensures { result ≡ rule5 file.now }
+    ensures { verdict result ≡ rule5 file.now }
 {
-    refusal(5, levels_broken(file[49], file[50], file[48]))
+    refuse_if(
+        levels_broken(file[49], file[50], file[48]),
+        Refusal::HeaderLevels,
+    )
 }
 
 // Rules 2 to 5 of a file that is long enough for its header.
-fn header_rule(file: &[u8]) -> u8
+#[tactic(auto, using(tune::proofs::Checks::refused, tune::proofs::Checks::passed), unfolding(crate::specs::Refusals::header_rule))]
+fn check_header(file: &[u8]) -> Result<(), Refusal>
     requires { 96 ≤ length file.now }
-    ensures { result ≡ header_rule file.now }
+    ensures { verdict result ≡ header_rule file.now }
 {
     let c = counts_of(file);
-    let lists = first_of(lists_rule(file, c), levels_rule(file));
-    first_of(mark_rule(file), first_of(counts_rule(c), lists))
+    check_mark(file)?;
+    check_counts(c)?;
+    check_lists(file, c)?;
+    check_levels(file)
 }
 
-// The first of rules 1 to 5 that the file breaks, 0 where it breaks none.
-pub fn measure_rule(file: &[u8]) -> u8
-    ensures { result ≡ measure_rule file.now }
+// The first of rules 1 to 5 that the file breaks.
+#[tactic(auto, unfolding(crate::specs::Refusals::measure_rule, laws::specs::Refusals::or_else))]
+pub fn check_file(file: &[u8]) -> Result<(), Refusal>
+    ensures { verdict result ≡ measure_rule file.now }
 {
     if file.len() < 96 {
-        return 1;
+        return Err(Refusal::ShortFile);
     }
-    header_rule(file)
+    check_header(file)
 }
 
 // Measure: the numbers of orders, instruments and patterns, or why not.
-pub fn measure(file: &[u8]) -> Measured
-    ensures value { result ≡ measured file.now }
-    ensures says { measured_says result ≡ said (measure_rule file.now) (counts_of file.now) }
+#[tactic(auto, using(tune::proofs::Checks::kept, crate::proofs::Accepted::accepted))]
+pub fn measure(file: &[u8]) -> Result<Counts, Refusal>
+    ensures { says result ≡ said (measure_rule file.now) (counts_of file.now) }
 {
-    let refused = measure_rule(file);
-    if refused != 0 {
-        return Measured::Refused(refused);
-    }
-    Measured::Found(counts_of(file))
+    check_file(file)?;
+    Ok(counts_of(file))
 }

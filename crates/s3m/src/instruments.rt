@@ -2,17 +2,16 @@
 ghost use Rattle.std.specs.Prelude.{◌≡◌, ◌+◌, ◌*◌, ◌%◌, ◌≤◌, ◌<◌, false, ◌++◌, length};
 ghost use Rattle.s3m.specs.Instruments.{header_sample, instrument_sample, samples_of, instrument_past, instruments_past};
 
-use tune::numbers::u16_at;
-use tune::parts::{copy_whole, put_at};
+use crate::header::pointer_at;
+use tune::parts::put_at;
 
-fn instrument_past(file: &[u8], pointer: usize) -> bool
-    requires { pointer < 65536 }
+fn instrument_past(file: &[u8], pointer: u16) -> bool
     ensures { result ≡ instrument_past file.now pointer }
 {
     if pointer == 0 {
         return false;
     }
-    file.len() < pointer * 16 + 80
+    file.len() < usize::from(pointer) * 16 + 80
 }
 
 // Rule 7, over the n pointers of a list.
@@ -20,13 +19,11 @@ pub fn instruments_past(file: &[u8], list: usize, n: usize) -> bool
     requires { (n ≤ 99) × (list + n * 2 ≤ length file.now) }
     ensures { result ≡ instruments_past file.now list n }
 {
-    let mut k: usize = 0;
-    while k < n {
-        let pointer = u16_at(file, list + k * 2);
+    for k in 0..n {
+        let pointer = pointer_at(file, list, k);
         if instrument_past(file, pointer) {
             return true;
         }
-        k += 1;
     }
     false
 }
@@ -37,9 +34,12 @@ fn low_bit(b: u8) -> u8
     b & 1
 }
 
+// The bytes of a sample.
+type SampleBytes = [u8; 20];
+
 // Type, volume, loop flag and spare byte; length, loop start and loop end; c5 speed.
-fn put_sample(part: &mut [u8], first: [u8; 4], lengths: &[u8], c5: &[u8])
-    requires { (length part.old ≡ 20) × (length lengths.now ≡ 12) × (length c5.now ≡ 4) }
+fn put_sample(part: &mut SampleBytes, first: [u8; 4], lengths: &[u8], c5: &[u8])
+    requires { (length lengths.now ≡ 12) × (length c5.now ≡ 4) }
     ensures { part.new ≡ first ++ (lengths.now ++ c5.now) }
 {
     put_at(part, 0, &first);
@@ -48,8 +48,8 @@ fn put_sample(part: &mut [u8], first: [u8; 4], lengths: &[u8], c5: &[u8])
 }
 
 // The sample of the 80 bytes at a place.
-fn put_header(part: &mut [u8], file: &[u8], at: usize)
-    requires { (length part.old ≡ 20) × (at + 80 ≤ length file.now) }
+fn put_header(part: &mut SampleBytes, file: &[u8], at: usize)
+    requires { at + 80 ≤ length file.now }
     ensures { part.new ≡ header_sample file.now at }
 {
     let kind = file[at];
@@ -64,19 +64,23 @@ fn put_header(part: &mut [u8], file: &[u8], at: usize)
         put_sample(part, [kind, volume, 0, 0], &[0u8; 12], c5);
         return;
     }
-    copy_whole(part, &[0u8; 20]);
+    part.copy_from_slice(&[0; 20]);
 }
 
 // The sample of an instrument pointer.
-fn put_instrument(part: &mut [u8], file: &[u8], pointer: usize)
-    requires { (length part.old ≡ 20) × (pointer < 65536) × (instrument_past file.now pointer ≡ false) }
+fn put_instrument(part: &mut [u8], file: &[u8], pointer: u16)
+    requires { (length part.old ≡ 20) × (instrument_past file.now pointer ≡ false) }
     ensures { part.new ≡ instrument_sample file.now pointer }
 {
     if pointer == 0 {
-        copy_whole(part, &[0u8; 20]);
+        part.copy_from_slice(&[0; 20]);
         return;
     }
-    put_header(part, file, pointer * 16);
+    put_header(
+        part.as_mut_array().unwrap(),
+        file,
+        usize::from(pointer) * 16,
+    );
 }
 
 // The samples of the n pointers of a list, none of which breaks rule 7.
@@ -85,10 +89,8 @@ pub fn read_samples(file: &[u8], list: usize, n: usize, samples: &mut [u8])
     requires there { instruments_past file.now list n ≡ false }
     ensures { samples.new ≡ samples_of file.now list n }
 {
-    let mut k: usize = 0;
-    while k < n {
-        let pointer = u16_at(file, list + k * 2);
+    for k in 0..n {
+        let pointer = pointer_at(file, list, k);
         put_instrument(&mut samples[k * 20..k * 20 + 20], file, pointer);
-        k += 1;
     }
 }

@@ -4,8 +4,9 @@ ghost use Rattle.laws.specs.Entries.{tabulate};
 ghost use Rattle.s3m.specs.Layout.{counts_of, pans_place};
 ghost use Rattle.s3m.specs.Opening.{setting_pan, pan_of, fixed_by, channel_opening, channel_at, opening_of};
 
+use crate::header::counts_of;
 use packed::entry::{bit_of, byte_at};
-use tune::numbers::{low_nibble, u16_at, wide};
+use tune::numbers::{low_nibble, u16_at};
 use tune::opening::{ChannelOpening, Fixed, Opening};
 
 fn setting_of(byte: u8) -> u8
@@ -29,7 +30,7 @@ fn setting_pan(setting: u8) -> u8
 fn pan_of(setting: u8, pans: bool, byte: u8) -> u8
     ensures { result ≡ pan_of setting pans byte }
 {
-    if pans & (bit_of(wide(byte), 5) == 1) {
+    if pans & (bit_of(usize::from(byte), 5) == 1) {
         return low_nibble(byte);
     }
     setting_pan(setting)
@@ -65,26 +66,25 @@ fn channel_at(file: &[u8], pans_at: usize, k: usize) -> ChannelOpening
     channel_opening(byte_at(file, 64 + k), pans, byte_at(file, pans_at + k))
 }
 
-fn channels_of(file: &[u8], pans_at: usize) -> [ChannelOpening; 32]
-    requires { (pans_at ≡ pans_place (counts_of file.now)) × (pans_at < 1000000) }
+fn channels_of(file: &[u8]) -> [ChannelOpening; 32]
+    requires { 96 ≤ length file.now }
     ensures { result ≡ tabulate 32 (channel_at file.now) }
 {
+    let pans_at = counts_of(file).pans_at();
     let mut channels = [channel_opening(0, false, 0); 32];
-    let mut k: usize = 0;
-    while k < 32 {
+    for k in 0..32 {
         channels[k] = channel_at(file, pans_at, k);
-        k += 1;
     }
     channels
 }
 
 // The opening values, with the rate that is handed in.
-pub fn opening_of(file: &[u8], rate: u32, pans_at: usize) -> Opening
-    requires { (96 ≤ length file.now) × (pans_at ≡ pans_place (counts_of file.now)) × (pans_at < 1000000) }
+pub fn opening_of(file: &[u8], rate: u32) -> Opening
+    requires { 96 ≤ length file.now }
     ensures { result ≡ opening_of file.now rate }
 {
-    let channels = channels_of(file, pans_at);
-    let flags = wide(file[38]);
+    let channels = channels_of(file);
+    let flags = usize::from(file[38]);
     Opening {
         speed: file[49],
         tempo: file[50],

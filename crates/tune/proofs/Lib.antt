@@ -3,3 +3,6 @@ pub mod Signed
 pub mod Sized
 pub mod RowCell
 pub mod Opened
+pub mod Checks
+pub mod Bytes
+pub mod Channels

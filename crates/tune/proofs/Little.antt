@@ -8,14 +8,8 @@ use lib.ListN.{get_or, take, drop}
 use lib.Seq.{get_or-take, get_or-drop, drop-drop}
 use Rattle.tune.specs.Numbers.{little_at, bytes_of, Bytes}
 
-pub two : (s : List ℕ) (at : ℕ) → little_at 2 s at ≡ get_or s at 0 + get_or s (at + 1) 0 * 256
-two s at = rw add-zero (omega arith)
-
 pub four : (s : List ℕ) (at : ℕ) → little_at 4 s at ≡ get_or s at 0 + get_or s (at + 1) 0 * 256 + get_or s (at + 2) 0 * 65536 + get_or s (at + 3) 0 * 16777216
 four s at = rw add-zero (omega arith)
-
-pub halves : (s : List ℕ) (at : ℕ) → little_at 4 s at + little_at 4 s (at + 4) * 4294967296 ≡ little_at 8 s at
-halves s at = rw (add-zero, add_assoc at 4 0, add_assoc at 4 1, add_assoc at 4 2, add_assoc at 4 3) (omega arith)
 
 -- a number of n bytes stands in any m bytes from its place on
 pub little_cut : (n m : ℕ) (s : List ℕ) (at : ℕ) → n ≤ m → little_at n s at ≡ little_at n (take m (drop at s)) 0

@@ -4,3 +4,4 @@ pub mod Cells
 pub mod Samples
 pub mod Transposition
 pub mod Opening
+pub mod Rules

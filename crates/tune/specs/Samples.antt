@@ -1,11 +1,9 @@
 -- The samples table (01, 'The tables that a call is lent'). Assumes nothing.
-use Rattle.std.specs.Prelude.{ℕ, ◌+◌, ◌*◌, ◌-◌, Bool, ◌&&◌, not, List, eqb, leb, ltb, get_or, length}
+use Rattle.std.specs.Prelude.{ℕ, ◌+◌, ◌*◌, ◌-◌, Bool, ◌&&◌, not, List, eqb, leb, ltb, get_or, length, None, Option, Some}
 use Rattle.laws.specs.Choice.{pick}
 use Rattle.tune.specs.Numbers.{little_at}
 use Rattle.tune.specs.Sizes.{sample_size}
 use Rattle.tune.specs.declared.samples.Sample.{Sample}
-use Rattle.tune.specs.declared.samples.SampleOption.{SampleOption}
-use Rattle.tune.specs.declared.samples.SampleOption.TheVariants.{None, Some}
 
 -- type, volume, loop flag (looped if not 0), a spare byte; then 32-bit length, loop start, loop end, c5 speed
 unfoldable pub sample_at : List ℕ → ℕ → Sample
@@ -20,7 +18,7 @@ sample_at s at = record {
 }
 
 -- the sample of an instrument number, which counts from 1
-unfoldable pub sample_of : List ℕ → ℕ → SampleOption
+unfoldable pub sample_of : List ℕ → ℕ → Option Sample
 sample_of s instrument =
     pick (eqb instrument 0) None
     (pick (ltb (length s) (instrument * sample_size)) None

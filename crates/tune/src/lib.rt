@@ -5,7 +5,7 @@ pub mod cells;
 pub mod numbers;
 pub mod opening;
 pub mod parts;
-pub mod refusals;
+pub mod rules;
 pub mod samples;
 pub mod sizes;
 pub mod transposition;

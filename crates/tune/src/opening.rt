@@ -1,7 +1,9 @@
 // The opening values of a tune, and rule 10.
 ghost use Rattle.std.specs.Prelude.{◌≡◌};
-ghost use Rattle.tune.specs.Opening.{levels_broken, rate_broken, channel_broken, channels_kept, rule10, blank_fixed, blank_opening};
+ghost use Rattle.tune.specs.Rules.{verdict};
+ghost use Rattle.tune.specs.Opening.{levels_broken, rate_broken, channel_broken, channels_kept, rule10};
 
+use crate::rules::{Refusal, refuse_if};
 use crate::transposition::is_beyond_24;
 
 // What no row changes of a channel.
@@ -52,60 +54,19 @@ fn channel_broken(c: ChannelOpening) -> bool
     (15 < c.pan) | is_beyond_24(fixed.transposition)
 }
 
-fn channels_kept(channels: [ChannelOpening; 32]) -> bool
-    ensures { result ≡ channels_kept channels }
+fn channels_kept(channels: &[ChannelOpening; 32]) -> bool
+    ensures { result ≡ channels_kept channels.now }
 {
-    let mut i: usize = 0;
-    while i < 32 {
-        let c = channels[i];
-        if channel_broken(c) {
-            return false;
-        }
-        i += 1;
-    }
-    true
+    channels.iter().all(|c| !channel_broken(*c))
 }
 
-// 10 where an opening value is out of range, else 0.
-pub fn opening_rule(o: Opening) -> u8
-    ensures { result ≡ rule10 o }
+// Rule 10: an opening value is out of range.
+#[tactic(auto, unfolding(crate::specs::Opening::rule10))]
+pub fn check_opening(o: Opening) -> Result<(), Refusal>
+    ensures { verdict result ≡ rule10 o }
 {
-    let channels = o.channels;
     let levels = levels_broken(o.speed, o.tempo, o.global_volume);
-    let kept = channels_kept(channels);
-    let rate = rate_broken(o.rate);
-    if levels | !kept | rate {
-        return 10;
-    }
-    0
-}
-
-fn blank_fixed() -> Fixed
-    ensures { result ≡ blank_fixed }
-{
-    Fixed {
-        muted: false,
-        right_bank: false,
-        adlib: false,
-        transposition: 0,
-    }
-}
-
-// The opening values beside a refusal, all 0.
-pub fn blank_opening() -> Opening
-    ensures { result ≡ blank_opening }
-{
-    let blank = ChannelOpening {
-        pan: 0,
-        fixed: blank_fixed(),
-    };
-    Opening {
-        speed: 0,
-        tempo: 0,
-        global_volume: 0,
-        rate: 0,
-        amiga_limits: false,
-        fast_slides: false,
-        channels: [blank; 32],
-    }
+    let kept = channels_kept(&o.channels);
+    let broken = levels | !kept | rate_broken(o.rate);
+    refuse_if(broken, Refusal::OpeningValues)
 }

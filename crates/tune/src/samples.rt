@@ -2,10 +2,11 @@
 ghost use Rattle.std.specs.Prelude.{◌≡◌, ◌+◌, ◌≤◌, length};
 ghost use Rattle.tune.specs.Samples.{sample_at, sample_of, is_adlib};
 
-use crate::numbers::{u32_at, wide};
+use crate::numbers::u32_at;
 
 #[derive(Clone, Copy)]
 pub struct Sample {
+    // any byte, as a lent table has it: only whether it is AdLib is asked
     pub kind: u8,
     pub volume: u8,
     pub looped: bool,
@@ -13,12 +14,6 @@ pub struct Sample {
     pub loop_start: u32,
     pub loop_end: u32,
     pub c5_speed: u32,
-}
-
-#[derive(Clone, Copy)]
-pub enum SampleOption {
-    None,
-    Some(Sample),
 }
 
 impl Sample {
@@ -29,6 +24,7 @@ impl Sample {
     }
 }
 
+#[tactic(auto, unfolding(crate::specs::Samples::sample_at))]
 fn sample_at(samples: &[u8], at: usize) -> Sample
     requires { at + 20 ≤ length samples.now }
     ensures { result ≡ sample_at samples.now at }
@@ -45,15 +41,16 @@ fn sample_at(samples: &[u8], at: usize) -> Sample
 }
 
 // The Rust's `samples.get(instrument - 1)`, with none for instrument 0.
-pub fn sample_of(samples: &[u8], instrument: u8) -> SampleOption
+#[tactic(auto, unfolding(crate::specs::Samples::sample_of))]
+pub fn sample_of(samples: &[u8], instrument: u8) -> Option<Sample>
     ensures { result ≡ sample_of samples.now instrument }
 {
-    let end = wide(instrument) * 20;
+    let end = usize::from(instrument) * 20;
     if instrument == 0 {
-        return SampleOption::None;
+        return None;
     }
     if samples.len() < end {
-        return SampleOption::None;
+        return None;
     }
-    SampleOption::Some(sample_at(samples, end - 20))
+    Some(sample_at(samples, end - 20))
 }

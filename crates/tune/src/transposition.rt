@@ -19,16 +19,12 @@ pub fn raised_by_128(t: i8) -> u8
 pub fn signed_byte(t: i8) -> u8
     ensures { result ≡ signed_byte t }
 {
-    let n = raised_by_128(t);
-    if n < 128 { n + 128 } else { n - 128 }
+    t.cast_unsigned()
 }
 
 // The number of a byte.
 pub fn signed_of(b: u8) -> i8
     ensures { result ≡ signed_of b }
 {
-    if b < 128 {
-        return b as i8;
-    }
-    (b as i16 - 256) as i8
+    b.cast_signed()
 }

@@ -11,11 +11,11 @@ use Rattle.packed.proofs.empty_row.Goals as goal
 
 pub loop-k-init : goal.loop-k-init
 unfolding pieces
-loop-k-init c = (omega arith, search rules, refl)
+loop-k-init c = (search rules, refl)
 
 pub loop-k-preserved : goal.loop-k-preserved
 loop-k-preserved c =
     let l = c.loop-k in
-    let h : l.k * 5 + 5 ≤ length l.row = omega (arith, l.invariant.1, c.loop-k-test.true) in
-    let g = begins_more (λ j. empty_cell) 5 (λ j. refl) l.k l.row h l.invariant.2 c.put_at.ensures in
-    (omega (arith, c.loop-k-test.true), g.0 ∙ l.invariant.1, g.1)
+    let h : l.k * 5 + 5 ≤ length l.row = omega (arith, l.invariant.0) in
+    let g = begins_more (λ j. empty_cell) 5 (λ j. refl) l.k l.row h l.invariant.1 c.put_at.ensures in
+    (g.0 ∙ l.invariant.0, g.1)

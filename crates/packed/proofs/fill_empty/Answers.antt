@@ -15,21 +15,20 @@ use Rattle.packed.proofs.fill_empty.Goals as goal
 
 pub loop-r-init : goal.loop-r-init
 unfolding pieces
-loop-r-init c = (omega arith, search rules, refl)
+loop-r-init c = (search rules, refl)
 
 pub loop-r-preserved : goal.loop-r-preserved
 loop-r-preserved c =
     let l = c.loop-r in
-    let e = c.copy_whole.ensures ∙ c.empty_row-row.ensures in
-    let h : l.r * 160 + 160 ≤ length l.cells = omega (arith, l.invariant.1, c.loop-r-test.true) in (
-      omega (arith, c.loop-r-test.true),
-      ap length (part_put l.cells (l.r * 160) 160 e) ∙ part_length l.cells (pieces 32 (λ k. empty_cell)) (l.r * 160) 160 h row_length ∙ l.invariant.1,
-      pieces_grow (λ j. pieces 32 (λ k. empty_cell)) 160 (λ j. row_length) c.args.cells.now l.r l.invariant.2 e,
+    let e = c.copy_from_slice.ensures.after ∙ c.empty_row-row.ensures in
+    let h : l.r * 160 + 160 ≤ length l.cells = omega (arith, l.invariant.0) in (
+      ap length (part_put l.cells (l.r * 160) 160 e) ∙ part_length l.cells (pieces 32 (λ k. empty_cell)) (l.r * 160) 160 h row_length ∙ l.invariant.0,
+      pieces_grow (λ j. pieces 32 (λ k. empty_cell)) 160 (λ j. row_length) c.args.cells.now l.r l.invariant.1 e,
     )
 
 pub returns : goal.returns
 returns c =
     let l = c.loop-r in
-    let h : length c.args.cells.now ≤ l.r * 160 = omega (arith, c.loop-r-test.false, c.requires) in
-    let e : l.r ≡ 64 = omega (arith, l.invariant.0, c.loop-r-test.false) in
-    l.invariant.2 ∙ rw (drop_of_length-le _ h, append-nil, e) rows_full
+    let h : length c.args.cells.now ≤ l.r * 160 = omega arith in
+    let e : l.r ≡ 64 = omega arith in
+    l.invariant.1 ∙ rw (drop_of_length-le _ h, append-nil, e) rows_full

@@ -2,7 +2,7 @@
 -- Assumes nothing.
 use mathlib.Core.Path.{◌≡◌}
 use mathlib.Core.List.{◌++◌}
-use Prim.Native.Nat.{◌*◌, ◌-◌, ◌≤◌}
+use Prim.Native.Nat.{◌*◌}
 use lib.ListN.{length, drop}
 use Rattle.laws.specs.Entries.{pieces}
 use Rattle.packed.specs.Entry.{empty_cell}
@@ -10,7 +10,4 @@ use Rattle.packed.proofs.fill_empty.Given as goal
 
 abbrev pub invariant-loop-r : goal.invariant-loop-r
 invariant-loop-r l =
-    (l.r ≤ 64) × (length l.cells ≡ 10240) × (l.cells ≡ pieces l.r (λ j. pieces 32 (λ k. empty_cell)) ++ drop (l.r * 160) l.initial.cells)
-
-abbrev pub decreases-loop-r : goal.decreases-loop-r
-decreases-loop-r l = 64 - l.r
+    (length l.cells ≡ 10240) × (l.cells ≡ pieces l.r (λ j. pieces 32 (λ k. empty_cell)) ++ drop (l.r * 160) l.initial.cells)

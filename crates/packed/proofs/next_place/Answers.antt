@@ -12,7 +12,7 @@ returns c =
     let a = c.args in
     let b = c.wide_at-b.ensures.0 in
     (λ j. record {
-      at = a.at + (c.entry_bytes.ensures.0 ∙ ap entry_bytes b) j;
-      row = a.row + (c.rows_ended.ensures.0 ∙ ap (λ (x : ℕ). pick (eqb x 0) 1 0) b) j;
+      at = a.p.at + (c.entry_bytes.ensures.0 ∙ ap entry_bytes b) j;
+      row = a.p.row + (c.rows_ended.ensures.0 ∙ ap (λ (x : ℕ). pick (eqb x 0) 1 0) b) j;
     })
-    ∙ sym (place_one a.file.now a.at a.row)
+    ∙ sym (place_one a.file.now a.p.at a.p.row)

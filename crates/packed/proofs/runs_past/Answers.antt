@@ -7,15 +7,15 @@ use Rattle.packed.specs.Unpacking.{runs_past}
 use Rattle.packed.proofs.Walks.{ending_start, ending_next, ending_done, walk_less}
 use Rattle.packed.proofs.runs_past.Goals as goal
 
-pub loop-row-init : goal.loop-row-init
-loop-row-init c = ending_start _ _
+pub loop-p-init : goal.loop-p-init
+loop-p-init c = ending_start _ _
 
-pub loop-row-smaller : goal.loop-row-smaller
-loop-row-smaller c = walk_less _ _ _ c.loop-row-test.true c.next_place-p.ensures
+pub loop-p-smaller : goal.loop-p-smaller
+loop-p-smaller c = walk_less _ _ _ c.loop-p-test.true c.next_place-p.ensures
 
-pub loop-row-preserved : goal.loop-row-preserved
-loop-row-preserved c = ending_next c.loop-row.invariant c.loop-row-test.true c.next_place-p.ensures
+pub loop-p-preserved : goal.loop-p-preserved
+loop-p-preserved c = ending_next c.loop-p.invariant c.loop-p-test.true c.next_place-p.ensures
 
 pub returns : goal.returns
 unfolding runs_past
-returns c = ap (ltb (length c.args.file.now)) (ending_done c.loop-row.invariant c.loop-row-test.false)
+returns c = ap (ltb (length c.args.file.now)) (ending_done c.loop-p.invariant c.loop-p-test.false)

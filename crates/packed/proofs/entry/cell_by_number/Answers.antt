@@ -7,5 +7,5 @@ pub returns : goal.returns
 returns c =
     let a = c.args in
     chosen_cell a.file.now a.at a.b _ _ _ c.bit_of-note.ensures c.bit_of-volume.ensures c.bit_of-command.ensures.0
-    (λ k. omega (arith, c.shared_slice_known-1.given k)) _ _ _ _ _ _ c.u64_at-x.ensures
+    (λ k. omega (arith, c.type_inv.file k)) _ _ _ _ _ _ c.u64_at-x.ensures
     c.either-n.ensures c.either-y.ensures c.either-v.ensures c.either-z.ensures c.either-c.ensures

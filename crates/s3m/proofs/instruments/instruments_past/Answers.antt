@@ -11,24 +11,24 @@ use Rattle.s3m.proofs.instruments.instruments_past.Goals.{Else-instrument_past, 
 
 -- the test at this turn's pointer
 past : (c : Then-instrument_past) → instrument_past c.args.file.now (pointer_at c.args.file.now c.args.list c.loop-k.k) ≡ c.instrument_past.result
-past c = ap (instrument_past c.args.file.now) (sym c.u16_at-pointer.ensures.0) ∙ sym c.instrument_past.ensures
+past c = ap (instrument_past c.args.file.now) (sym c.pointer_at-pointer.ensures) ∙ sym c.instrument_past.ensures
 
 past-left : (c : Else-instrument_past) → instrument_past c.args.file.now (pointer_at c.args.file.now c.args.list c.loop-k.k) ≡ c.instrument_past.result
-past-left c = ap (instrument_past c.args.file.now) (sym c.u16_at-pointer.ensures.0) ∙ sym c.instrument_past.ensures
+past-left c = ap (instrument_past c.args.file.now) (sym c.pointer_at-pointer.ensures) ∙ sym c.instrument_past.ensures
 
 pub loop-k-init : goal.loop-k-init
-loop-k-init c = (omega arith, some_none _)
+loop-k-init c = some_none _
 
 pub returns-then-instrument_past : goal.returns-then-instrument_past
 unfolding instruments_past
 returns-then-instrument_past c =
     let a = c.args in
-    sym (some_found (λ i. instrument_past a.file.now (pointer_at a.file.now a.list i)) a.n c.loop-k.k c.loop-k-test.true (past c ∙ c.if-instrument_past.true))
+    sym (some_found (λ i. instrument_past a.file.now (pointer_at a.file.now a.list i)) a.n c.loop-k.k (omega arith) (past c ∙ c.if-instrument_past.true))
 
 pub loop-k-preserved : goal.loop-k-preserved
 loop-k-preserved c =
     let l = c.loop-k in
-    (omega arith, some_next _ l.k l.invariant.1 (past-left c ∙ c.if-instrument_past.false))
+    some_next _ l.k l.invariant (past-left c ∙ c.if-instrument_past.false)
 
 pub returns : goal.returns
 unfolding instruments_past
@@ -36,4 +36,4 @@ returns c =
     let a = c.args in
     let l = c.loop-k in
     let e : l.k ≡ a.n = omega arith in
-    sym l.invariant.1 ∙ ap (λ (m : ℕ). some m (λ i. instrument_past a.file.now (pointer_at a.file.now a.list i))) e
+    sym l.invariant ∙ ap (λ (m : ℕ). some m (λ i. instrument_past a.file.now (pointer_at a.file.now a.list i))) e

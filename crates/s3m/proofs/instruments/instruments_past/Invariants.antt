@@ -1,5 +1,4 @@
 -- `s3m::instruments::instruments_past` meets its contract. Assumes nothing.
-use Prim.Native.Nat.{◌≤◌, ◌-◌}
 use mathlib.Core.Path.{◌≡◌}
 use mathlib.Core.Bool.{false}
 use Rattle.laws.specs.Entries.{some}
@@ -8,7 +7,4 @@ use Rattle.s3m.specs.Instruments.{instrument_past}
 use Rattle.s3m.proofs.instruments.instruments_past.Given as goal
 
 abbrev pub invariant-loop-k : goal.invariant-loop-k
-invariant-loop-k l = (l.k ≤ l.n) × (some l.k (λ i. instrument_past l.file (pointer_at l.file l.list i)) ≡ false)
-
-abbrev pub decreases-loop-k : goal.decreases-loop-k
-decreases-loop-k l = l.n - l.k
+invariant-loop-k l = (some l.k (λ i. instrument_past l.file (pointer_at l.file l.list i)) ≡ false)

@@ -25,4 +25,4 @@ returns-then-kind c =
 pub returns : goal.returns
 unfolding header_sample
 returns c =
-    c.copy_whole.ensures ∙ rw (ne_eqb _ _ c.if-kind-eq1.false, c.if-kind.false)
+    c.copy_from_slice.ensures.after ∙ rw (ne_eqb _ _ c.if-kind-eq1.false, c.if-kind.false)

@@ -12,23 +12,23 @@ use Rattle.s3m.proofs.instruments.read_samples.Goals as goal
 
 pub loop-k-init : goal.loop-k-init
 unfolding pieces
-loop-k-init c = (omega arith, search rules, refl)
+loop-k-init c = (search rules, refl)
 
 pub put_instrument-requires : goal.put_instrument-requires
 unfolding instruments_past
 put_instrument-requires c =
-    let u = c.u16_at-pointer.ensures in
-    let e = some_absent (λ i. instrument_past c.args.file.now (pointer_at c.args.file.now c.args.list i)) c.args.n c.loop-k.k c.loop-k-test.true c.requires.there in
-    (omega (arith, c.put_instrument-arg-1.given.2), u.1, ap (instrument_past c.args.file.now) u.0 ∙ e)
+    let u = c.pointer_at-pointer.ensures in
+    let e = some_absent (λ i. instrument_past c.args.file.now (pointer_at c.args.file.now c.args.list i)) c.args.n c.loop-k.k (omega arith) c.requires.there in
+    (search rules, ap (instrument_past c.args.file.now) u ∙ e)
 
 pub loop-k-preserved : goal.loop-k-preserved
 loop-k-preserved c =
     let l = c.loop-k in
-    let sample = c.put_instrument.ensures ∙ ap (instrument_sample c.args.file.now) c.u16_at-pointer.ensures.0 in
-    (omega arith, search rules, pieces_grow (λ i. instrument_sample c.args.file.now (pointer_at c.args.file.now c.args.list i)) 20 (λ i. length-instrument _ _) c.args.samples.now l.k l.invariant.2 sample)
+    let sample = c.put_instrument.ensures ∙ ap (instrument_sample c.args.file.now) c.pointer_at-pointer.ensures in
+    (search rules, pieces_grow (λ i. instrument_sample c.args.file.now (pointer_at c.args.file.now c.args.list i)) 20 (λ i. length-instrument _ _) c.args.samples.now l.k l.invariant.1 sample)
 
 pub returns : goal.returns
 unfolding samples_of
 returns c =
     let l = c.loop-k in
-    pieces_done (λ i. instrument_sample c.args.file.now (pointer_at c.args.file.now c.args.list i)) 20 c.args.samples.now l.k c.args.n (omega arith) (omega arith) l.invariant.2
+    pieces_done (λ i. instrument_sample c.args.file.now (pointer_at c.args.file.now c.args.list i)) 20 c.args.samples.now l.k c.args.n (omega arith) (omega arith) l.invariant.1

@@ -1,5 +1,5 @@
 -- `s3m::instruments::read_samples` meets its contract. Assumes nothing.
-use Prim.Native.Nat.{◌*◌, ◌≤◌, ◌-◌}
+use Prim.Native.Nat.{◌*◌}
 use mathlib.Core.Path.{◌≡◌}
 use mathlib.Core.List.{◌++◌}
 use lib.ListN.{length, drop}
@@ -9,7 +9,4 @@ use Rattle.s3m.specs.Instruments.{instrument_sample}
 use Rattle.s3m.proofs.instruments.read_samples.Given as goal
 
 abbrev pub invariant-loop-k : goal.invariant-loop-k
-invariant-loop-k l = (l.k ≤ l.n) × (length l.samples ≡ l.n * 20) × (l.samples ≡ pieces l.k (λ i. instrument_sample l.file (pointer_at l.file l.list i)) ++ drop (l.k * 20) l.initial.samples)
-
-abbrev pub decreases-loop-k : goal.decreases-loop-k
-decreases-loop-k l = l.n - l.k
+invariant-loop-k l = (length l.samples ≡ l.n * 20) × (l.samples ≡ pieces l.k (λ i. instrument_sample l.file (pointer_at l.file l.list i)) ++ drop (l.k * 20) l.initial.samples)

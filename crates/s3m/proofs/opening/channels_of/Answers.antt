@@ -10,10 +10,10 @@ use Rattle.s3m.proofs.opening.channels_of.Goals as goal
 
 pub loop-k-init : goal.loop-k-init
 unfolding pieces
-loop-k-init c = (omega arith, refl, refl, refl)
+loop-k-init c = (refl, refl, refl)
 
 pub loop-k-preserved : goal.loop-k-preserved
 loop-k-preserved c =
     let l = c.loop-k in
-    let h : l.k < 32 = c.loop-k-test.true in
-    (omega arith, l.invariant.1, simp length-set l.invariant.2, rw (l.invariant.3, c.channel_at.ensures) (tabulate_put (channel_at c.args.file.now) _ l.k (rw l.invariant.1 h)))
+    let h : l.k < 32 = omega arith in
+    (l.invariant.0, simp length-set l.invariant.1, rw (l.invariant.2, c.channel_at.ensures) (tabulate_put (channel_at c.args.file.now) _ l.k (rw l.invariant.0 h)))

@@ -4,4 +4,4 @@ use Rattle.s3m.proofs.opening.opening_of.Goals as goal
 
 pub returns : goal.returns
 unfolding opening_of
-returns c = rw (c.channels_of-channels.ensures, c.bit_of.ensures.0, c.bit_of-2.ensures.0, c.wide-flags.ensures.0, c.u16_at.ensures.0)
+returns c = rw (c.channels_of-channels.ensures, c.bit_of.ensures.0, c.bit_of-2.ensures.0, c.from-flags.ensures, c.u16_at.ensures.0)

@@ -10,4 +10,4 @@ returns-then-pointer-eq0 c = c.fill_empty.ensures ∙ rw (eq-eqb _ _ c.if-pointe
 
 pub returns : goal.returns
 unfolding pattern_cells
-returns c = c.unpack.ensures ∙ rw (ne_eqb _ _ c.if-pointer-eq0.false)
+returns c = c.unpack.ensures ∙ rw (c.place_of.ensures.0, ne_eqb _ _ c.if-pointer-eq0.false)

@@ -1,5 +1,5 @@
 -- `s3m::patterns::read_cells` meets its contract. Assumes nothing.
-use Prim.Native.Nat.{◌*◌, ◌≤◌, ◌-◌}
+use Prim.Native.Nat.{◌*◌}
 use mathlib.Core.Path.{◌≡◌}
 use mathlib.Core.List.{◌++◌}
 use lib.ListN.{length, drop}
@@ -9,7 +9,4 @@ use Rattle.s3m.specs.Patterns.{pattern_cells}
 use Rattle.s3m.proofs.patterns.read_cells.Given as goal
 
 abbrev pub invariant-loop-k : goal.invariant-loop-k
-invariant-loop-k l = (l.k ≤ l.n) × (length l.cells ≡ l.n * 10240) × (l.cells ≡ pieces l.k (λ i. pattern_cells l.file (pointer_at l.file l.list i)) ++ drop (l.k * 10240) l.initial.cells)
-
-abbrev pub decreases-loop-k : goal.decreases-loop-k
-decreases-loop-k l = l.n - l.k
+invariant-loop-k l = (length l.cells ≡ l.n * 10240) × (l.cells ≡ pieces l.k (λ i. pattern_cells l.file (pointer_at l.file l.list i)) ++ drop (l.k * 10240) l.initial.cells)
