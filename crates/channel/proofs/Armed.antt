@@ -1,4 +1,5 @@
 -- What a row leaves of a channel's memory, command and info, and the fixed values that it never changes. Assumes nothing.
+use Rattle.std.specs.Prelude.{None, Option, Some}
 use Prim.Native.Nat.{ℕ}
 use mathlib.Core.Path.{◌≡◌, refl, ◌∙◌}
 use mathlib.Core.Bool.{Bool, ◌&&◌, not}
@@ -10,8 +11,6 @@ use Rattle.tune.specs.Samples.{sample_of}
 use Rattle.tune.specs.declared.cells.Cell.{Cell}
 use Rattle.tune.specs.declared.opening.ChannelOpening.{ChannelOpening}
 use Rattle.tune.specs.declared.samples.Sample.{Sample}
-use Rattle.tune.specs.declared.samples.SampleOption.{SampleOption}
-use Rattle.tune.specs.declared.samples.SampleOption.TheVariants.{None, Some}
 use Rattle.channel.specs.declared.state.Channel.{Channel}
 use Rattle.channel.specs.declared.state.Played.{Played}
 use Rattle.channel.specs.declared.state.Switches.{Switches}
@@ -32,12 +31,12 @@ opened_fixed o = refl
 abbrev held_in : Played → Held
 held_in e = held e.channel
 
-load_from_held : (c : Channel) (named : SampleOption) (g : ℕ) → held (loaded_from c named g) ≡ held c
+load_from_held : (c : Channel) (named : Option Sample) (g : ℕ) → held (loaded_from c named g) ≡ held c
 unfolding loaded_from
 load_from_held c None g = refl
 load_from_held c (Some s) g = stored_held c _ g
 
-load_held : (c : Channel) (i : ℕ) (named : SampleOption) (g : ℕ) → held (loaded c i named g) ≡ held c
+load_held : (c : Channel) (i : ℕ) (named : Option Sample) (g : ℕ) → held (loaded c i named g) ≡ held c
 unfolding loaded
 load_held c i named g = chain held (eqb i 0) (λ _. refl) (λ _. load_from_held (with_instrument c i) named g ∙ instrument_held c i)
 
@@ -53,19 +52,19 @@ started_held : (c : Channel) (l : Cell) (f : Float) (s : Sample) (amiga : Bool) 
 unfolding started
 started_held c l f s amiga = start_held _ _ _ _ _ _ _ _ ∙ pitch_held c _ _
 
-on_held : (c : Channel) (l : Cell) (named : SampleOption) (amiga : Bool) → held_in (note_on c l named amiga) ≡ held c
+on_held : (c : Channel) (l : Cell) (named : Option Sample) (amiga : Bool) → held_in (note_on c l named amiga) ≡ held c
 unfolding note_on
 on_held c l None amiga = refl
 on_held c l (Some s) amiga =
     chain held_in (slides l.command && lt silence c.frequency) (λ _. aim_held c l.note _ amiga) (λ _. started_held c l _ s amiga)
 
-back_held : (c : Channel) (l : Cell) (named : SampleOption) (amiga : Bool) → held (slid_back c l named amiga) ≡ held c
+back_held : (c : Channel) (l : Cell) (named : Option Sample) (amiga : Bool) → held (slid_back c l named amiga) ≡ held c
 unfolding slid_back
 back_held c l None amiga = refl
 back_held c l (Some s) amiga =
     chain held (slides l.command && not (eqb c.last_note 0)) (λ _. aim_held c _ _ amiga) (λ _. refl)
 
-noted_held : (c : Channel) (l : Cell) (named : SampleOption) (amiga : Bool) → held_in (noted c l named amiga) ≡ held c
+noted_held : (c : Channel) (l : Cell) (named : Option Sample) (amiga : Bool) → held_in (noted c l named amiga) ≡ held c
 unfolding noted
 noted_held c l named amiga =
     chain held_in (eqb l.note 254) (λ _. cut_held c)

@@ -1,4 +1,5 @@
 -- The setters that a step after the recall uses leave a channel's memory, command, info and fixed values. Assumes nothing.
+use Rattle.std.specs.Prelude.{Option}
 use Prim.Native.Nat.{ℕ}
 use mathlib.Core.Path.{◌≡◌, refl, ap}
 use mathlib.Core.Bool.{Bool}
@@ -7,8 +8,8 @@ use lib.Ieee.{Float}
 use Rattle.tune.specs.declared.opening.Fixed.{Fixed}
 use Rattle.channel.specs.declared.state.Channel.{Channel}
 use Rattle.channel.specs.declared.state.Oscillator.{Oscillator}
-use Rattle.channel.specs.declared.state.TriggerOption.{TriggerOption}
 use Rattle.channel.specs.Set.{with_delay, with_instrument, with_stored, with_voice, with_cut, with_pitch, with_note, with_start, with_volume, with_latch, with_pan, with_glissando, with_vibrato, with_tremolo}
+use Rattle.channel.specs.declared.state.PendingTrigger.{PendingTrigger}
 
 -- what no step after the recall changes
 pub record Keeps (c d : Channel) : Type 0 where
@@ -40,7 +41,7 @@ keeps c d e =
     }
 
 -- each setter below leaves all four
-pub delay_held : (c : Channel) (d : TriggerOption) → held (with_delay c d) ≡ held c
+pub delay_held : (c : Channel) (d : Option PendingTrigger) → held (with_delay c d) ≡ held c
 unfolding held with_delay
 delay_held c d = refl
 

@@ -1,4 +1,5 @@
 -- A channel at rest under a quiet cell stays as it is and strikes nothing. Assumes nothing.
+use Rattle.std.specs.Prelude.{None, Option, Some, is_none}
 use Prim.Native.Nat.{ℕ}
 use mathlib.Core.Path.{◌≡◌, refl, sym, ap, ◌∙◌}
 use mathlib.Core.Bool.{Bool, true, false, ◌&&◌, not}
@@ -9,19 +10,17 @@ use Rattle.laws.specs.Choice.{pick}
 use Rattle.laws.proofs.Picks.{and_true}
 use Rattle.tune.specs.Samples.{sample_of}
 use Rattle.tune.specs.declared.cells.Cell.{Cell}
-use Rattle.tune.specs.declared.samples.SampleOption.{SampleOption}
-use Rattle.tune.specs.declared.samples.SampleOption.TheVariants.{None, Some}
 use Rattle.channel.specs.declared.state.Channel.{Channel}
 use Rattle.channel.specs.declared.state.Played.{Played}
 use Rattle.channel.specs.declared.state.Switches.{Switches}
-use Rattle.channel.specs.declared.state.TriggerOption.{TriggerOption}
-use Rattle.channel.specs.declared.state.TriggerOption.TheVariants.{None as Unset, Some as Waiting}
 use Rattle.channel.specs.Set.{with_row, with_latch}
 use Rattle.channel.specs.Memory.{resumes, has_memory, remembered, recalled, stored, begun}
 use Rattle.channel.specs.Play.{unstruck, loaded, slid_back, noted, volumed, volumed_after, instrument_of, play_cell}
 use Rattle.channel.specs.Commands.{commanded}
 use Rattle.channel.specs.Row.{with_info, delivered, relatched, finished, channel_entered}
-use Rattle.channel.specs.Rest.{is_none, at_rest, quiet}
+use Rattle.channel.specs.Rest.{at_rest, quiet}
+use Rattle.channel.specs.declared.state.PendingTrigger.{PendingTrigger}
+use Rattle.tune.specs.declared.samples.Sample.{Sample}
 
 -- the quiet cell
 abbrev pub unnamed : Cell
@@ -46,11 +45,11 @@ record Idle (c : Channel) : Type 0 where
   command : c.command ≡ 0
   info : c.info ≡ 0
   counter : c.retrig_counter ≡ 0
-  delay : c.pending_delay ≡ Unset
+  delay : c.pending_delay ≡ None
 
-none_is : (d : TriggerOption) → is_none d ≡ true → d ≡ Unset
-none_is Unset e = refl
-none_is (Waiting t) e = cc
+none_is : (d : Option PendingTrigger) → is_none d ≡ true → d ≡ None
+none_is None e = refl
+none_is (Some t) e = cc
 
 rest_is : (c : Channel) → at_rest c ≡ true → Idle c
 unfolding at_rest
@@ -88,7 +87,7 @@ begun_rest c sInfo i =
     (λ t. with_row c (sym i.command t) ((recall_none c.effect_memory sInfo ∙ sym i.info) t) (sym i.delay t) (sym i.counter t) (store_none c.effect_memory t) (thaw_none c.frozen t))
     ∙ row_same c
 
-back_none : (c : Channel) (x : ℕ) (named : SampleOption) (amiga : Bool) → slid_back c (with_info unnamed x) named amiga ≡ c
+back_none : (c : Channel) (x : ℕ) (named : Option Sample) (amiga : Bool) → slid_back c (with_info unnamed x) named amiga ≡ c
 unfolding slid_back
 back_none c x None amiga = refl
 back_none c x (Some s) amiga = refl

@@ -1,4 +1,5 @@
 -- What every step of a row's start keeps of a channel, the row's start keeps. Assumes nothing.
+use Rattle.std.specs.Prelude.{None, Option, Some}
 use Prim.Native.Nat.{ℕ, ◌/◌, ◌%◌, ◌≤◌}
 use mathlib.Core.Bool.{Bool, ◌&&◌, not}
 use mathlib.Core.List.{List}
@@ -9,13 +10,10 @@ use Rattle.laws.proofs.Picks.{choice}
 use Rattle.tune.specs.Samples.{sample_of}
 use Rattle.tune.specs.declared.cells.Cell.{Cell}
 use Rattle.tune.specs.declared.samples.Sample.{Sample}
-use Rattle.tune.specs.declared.samples.SampleOption.{SampleOption}
-use Rattle.tune.specs.declared.samples.SampleOption.TheVariants.{None, Some}
 use Rattle.channel.specs.declared.state.Channel.{Channel}
 use Rattle.channel.specs.declared.state.Oscillator.{Oscillator}
 use Rattle.channel.specs.declared.state.Played.{Played}
 use Rattle.channel.specs.declared.state.Switches.{Switches}
-use Rattle.channel.specs.declared.state.TriggerOption.{TriggerOption}
 use Rattle.channel.specs.Set.{with_row, with_delay, with_instrument, with_stored, with_volume, with_latch, with_pan, with_glissando, with_vibrato, with_tremolo}
 use Rattle.channel.specs.Pitches.{frequency_on}
 use Rattle.channel.specs.Levels.{silence, peak, load_peak, volume_slid, stereo_pan}
@@ -24,11 +22,12 @@ use Rattle.channel.specs.Play.{loaded_from, loaded, cut, aimed, started, slides,
 use Rattle.channel.specs.Commands.{fine_slid, finetuned, extended_by, commanded}
 use Rattle.channel.specs.Row.{puts_off, put_off, with_info, delivered, relatched, finished, channel_entered}
 use Rattle.channel.proofs.Each.{RowKeeps}
+use Rattle.channel.specs.declared.state.PendingTrigger.{PendingTrigger}
 
 -- each change that a row's start can make of a channel keeps it
 pub record StepsKeep (P : Channel → Type 0) : Type 0 where
-  pub row : (c : Channel) (k info : ℕ) (d : TriggerOption) (n : ℕ) (memory : List ℕ) (frozen : Bool) → P c → P (with_row c k info d n memory frozen)
-  pub delay : (c : Channel) (d : TriggerOption) → P c → P (with_delay c d)
+  pub row : (c : Channel) (k info : ℕ) (d : Option PendingTrigger) (n : ℕ) (memory : List ℕ) (frozen : Bool) → P c → P (with_row c k info d n memory frozen)
+  pub delay : (c : Channel) (d : Option PendingTrigger) → P c → P (with_delay c d)
   pub instrument : (c : Channel) (i : ℕ) → P c → P (with_instrument c i)
   pub load : (c : Channel) (v g : ℕ) → P c → P (with_stored c (load_peak c.fixed.adlib v) g)
   pub column : (c : Channel) (v g : ℕ) → P c → P (with_stored c (peak v) g)
@@ -49,30 +48,30 @@ module _ (P : Channel → Type 0) (step : StepsKeep P) where
   abbrev In : Played → Type 0
   In e = P e.channel
 
-  load_from_keeps : (c : Channel) (named : SampleOption) (g : ℕ) → P c → P (loaded_from c named g)
+  load_from_keeps : (c : Channel) (named : Option Sample) (g : ℕ) → P c → P (loaded_from c named g)
   unfolding loaded_from
   load_from_keeps c None g h = h
   load_from_keeps c (Some s) g h = step.load c s.volume g h
 
-  load_keeps : (c : Channel) (i : ℕ) (named : SampleOption) (g : ℕ) → P c → P (loaded c i named g)
+  load_keeps : (c : Channel) (i : ℕ) (named : Option Sample) (g : ℕ) → P c → P (loaded c i named g)
   unfolding loaded
   load_keeps c i named g h = choice P (eqb i 0) (λ _. h) (λ _. load_from_keeps (with_instrument c i) named g (step.instrument c i h))
 
-  note_keeps : (c : Channel) (l : Cell) (named : SampleOption) (amiga : Bool) → P c → In (note_on c l named amiga)
+  note_keeps : (c : Channel) (l : Cell) (named : Option Sample) (amiga : Bool) → P c → In (note_on c l named amiga)
   unfolding note_on
   note_keeps c l None amiga h = h
   note_keeps c l (Some s) amiga h =
       choice In (slides l.command && lt silence c.frequency)
       (λ _. step.aim c l.note l.note s.c5_speed amiga h) (λ _. step.start c l s l.note s.c5_speed amiga h)
 
-  back_keeps : (c : Channel) (l : Cell) (named : SampleOption) (amiga : Bool) → P c → P (slid_back c l named amiga)
+  back_keeps : (c : Channel) (l : Cell) (named : Option Sample) (amiga : Bool) → P c → P (slid_back c l named amiga)
   unfolding slid_back
   back_keeps c l None amiga h = h
   back_keeps c l (Some s) amiga h =
       choice P (slides l.command && not (eqb c.last_note 0))
       (λ _. step.aim c c.last_note c.last_note s.c5_speed amiga h) (λ _. h)
 
-  noted_keeps : (c : Channel) (l : Cell) (named : SampleOption) (amiga : Bool) → P c → In (noted c l named amiga)
+  noted_keeps : (c : Channel) (l : Cell) (named : Option Sample) (amiga : Bool) → P c → In (noted c l named amiga)
   unfolding noted
   noted_keeps c l named amiga h =
       choice In (eqb l.note 254) (λ _. step.silenced c h)

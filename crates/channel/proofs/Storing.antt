@@ -1,4 +1,5 @@
 -- A row's steps neither read nor change a channel's memory: what the row stores may be set last. Assumes nothing.
+use Rattle.std.specs.Prelude.{None, Option, Some}
 use Prim.Native.Nat.{ℕ, ◌/◌, ◌%◌}
 use mathlib.Core.Path.{◌≡◌, refl, ap, ◌∙◌}
 use mathlib.Core.Bool.{Bool, true, false, ◌&&◌, not}
@@ -10,8 +11,6 @@ use Rattle.laws.proofs.Picks.{push}
 use Rattle.tune.specs.Samples.{sample_of}
 use Rattle.tune.specs.declared.cells.Cell.{Cell}
 use Rattle.tune.specs.declared.samples.Sample.{Sample}
-use Rattle.tune.specs.declared.samples.SampleOption.{SampleOption}
-use Rattle.tune.specs.declared.samples.SampleOption.TheVariants.{None, Some}
 use Rattle.channel.specs.declared.state.Channel.{Channel}
 use Rattle.channel.specs.declared.state.Played.{Played}
 use Rattle.channel.specs.declared.state.Switches.{Switches}
@@ -29,12 +28,12 @@ module _ (m : List ℕ) where
   abbrev set_in : Played → Played
   set_in e = record { channel = set e.channel; struck = e.struck }
 
-  load_from_set : (c : Channel) (named : SampleOption) (g : ℕ) → set (loaded_from c named g) ≡ loaded_from (set c) named g
+  load_from_set : (c : Channel) (named : Option Sample) (g : ℕ) → set (loaded_from c named g) ≡ loaded_from (set c) named g
   unfolding loaded_from with_stored with_memory
   load_from_set c None g = refl
   load_from_set c (Some s) g = refl
 
-  load_set : (c : Channel) (i : ℕ) (named : SampleOption) (g : ℕ) → set (loaded c i named g) ≡ loaded (set c) i named g
+  load_set : (c : Channel) (i : ℕ) (named : Option Sample) (g : ℕ) → set (loaded c i named g) ≡ loaded (set c) i named g
   unfolding loaded with_instrument with_memory
   load_set c i named g = push set (eqb i 0) refl (load_from_set (with_instrument c i) named g)
 
@@ -50,19 +49,19 @@ module _ (m : List ℕ) where
   unfolding started with_pitch with_start with_memory voice_of
   start_set c l f s amiga = refl
 
-  on_set : (c : Channel) (l : Cell) (named : SampleOption) (amiga : Bool) → set_in (note_on c l named amiga) ≡ note_on (set c) l named amiga
+  on_set : (c : Channel) (l : Cell) (named : Option Sample) (amiga : Bool) → set_in (note_on c l named amiga) ≡ note_on (set c) l named amiga
   unfolding note_on with_memory
   on_set c l None amiga = refl
   on_set c l (Some s) amiga =
       push set_in (slides l.command && lt silence c.frequency)
       (ap unstruck (aim_set c l.note _ amiga)) (ap strikes (start_set c l _ s amiga))
 
-  back_set : (c : Channel) (l : Cell) (named : SampleOption) (amiga : Bool) → set (slid_back c l named amiga) ≡ slid_back (set c) l named amiga
+  back_set : (c : Channel) (l : Cell) (named : Option Sample) (amiga : Bool) → set (slid_back c l named amiga) ≡ slid_back (set c) l named amiga
   unfolding slid_back with_memory
   back_set c l None amiga = refl
   back_set c l (Some s) amiga = push set (slides l.command && not (eqb c.last_note 0)) (aim_set c _ _ amiga) refl
 
-  note_set : (c : Channel) (l : Cell) (named : SampleOption) (amiga : Bool) → set_in (noted c l named amiga) ≡ noted (set c) l named amiga
+  note_set : (c : Channel) (l : Cell) (named : Option Sample) (amiga : Bool) → set_in (noted c l named amiga) ≡ noted (set c) l named amiga
   unfolding noted
   note_set c l named amiga =
       push set_in (eqb l.note 254) (ap unstruck (cut_set c))

@@ -1,10 +1,9 @@
 -- A row begins on a channel: the command is armed, the channel thaws, info 0 recalls (01, 'Section, second part').
 -- Assumes nothing.
-use Rattle.std.specs.Prelude.{ℕ, Bool, ◌||◌, ◌&&◌, not, List, eqb, leb, get_or, set}
+use Rattle.std.specs.Prelude.{ℕ, Bool, ◌||◌, ◌&&◌, not, List, eqb, leb, get_or, set, None}
 use Rattle.laws.specs.Choice.{pick}
 use Rattle.tune.specs.declared.cells.Cell.{Cell}
 use Rattle.channel.specs.declared.state.Channel.{Channel}
-use Rattle.channel.specs.declared.state.TriggerOption.TheVariants.{None}
 use Rattle.channel.specs.Set.{with_row, with_memory}
 
 -- the commands that thaw a frozen channel: E, F, G, H, J, K, L, U

@@ -1,9 +1,8 @@
 -- A channel as Open gives it (01, 'Open'): the Rust's `Default`, with its opening values. Assumes nothing.
-use Rattle.std.specs.Prelude.{false, replicate}
+use Rattle.std.specs.Prelude.{false, replicate, None}
 use Rattle.tune.specs.declared.opening.ChannelOpening.{ChannelOpening}
 use Rattle.channel.specs.declared.state.Channel.{Channel}
 use Rattle.channel.specs.declared.state.Oscillator.{Oscillator}
-use Rattle.channel.specs.declared.state.TriggerOption.TheVariants.{None}
 use Rattle.channel.specs.declared.state.Waveform.TheVariants.{Sine}
 use Rattle.channel.specs.Levels.{silence}
 

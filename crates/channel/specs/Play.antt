@@ -1,13 +1,11 @@
 -- Playing a cell's instrument, note and volume at a row's start (the Rust's `enter_row`). Assumes nothing.
-use Rattle.std.specs.Prelude.{ℕ, ◌*◌, Bool, true, false, ◌||◌, ◌&&◌, not, List, eqb, pos, Float}
+use Rattle.std.specs.Prelude.{ℕ, ◌*◌, Bool, true, false, ◌||◌, ◌&&◌, not, List, eqb, pos, Float, None, Option, Some}
 use Rattle.std.specs.Float.{binary64}
 use Rattle.std.specs.Float.Ieee.{of_int, lt}
 use Rattle.laws.specs.Choice.{pick}
 use Rattle.tune.specs.Samples.{sample_of, is_adlib}
 use Rattle.tune.specs.declared.cells.Cell.{Cell}
 use Rattle.tune.specs.declared.samples.Sample.{Sample}
-use Rattle.tune.specs.declared.samples.SampleOption.{SampleOption}
-use Rattle.tune.specs.declared.samples.SampleOption.TheVariants.{None, Some}
 use Rattle.pitch.specs.Limits.{limited}
 use Rattle.pitch.specs.Offset.{offset_of}
 use Rattle.channel.specs.declared.state.Channel.{Channel}
@@ -24,11 +22,11 @@ abbrev pub strikes : Channel → Played
 strikes c = record { channel = c; struck = true }
 
 -- an instrument is taken over, and its volume loaded where its sample is there; g is the global volume
-unfoldable pub loaded_from : Channel → SampleOption → ℕ → Channel
+unfoldable pub loaded_from : Channel → Option Sample → ℕ → Channel
 loaded_from c None g = c
 loaded_from c (Some s) g = with_stored c (load_peak c.fixed.adlib s.volume) g
 
-unfoldable pub loaded : Channel → ℕ → SampleOption → ℕ → Channel
+unfoldable pub loaded : Channel → ℕ → Option Sample → ℕ → Channel
 loaded c instrument named g = pick (eqb instrument 0) c (loaded_from (with_instrument c instrument) named g)
 
 -- a cut: on AdLib with a voice it only releases (voice mark 2), else it silences and leaves the target
@@ -66,7 +64,7 @@ abbrev pub slides : ℕ → Bool
 slides k = eqb k 7 || eqb k 12
 
 -- a note: with G or L, where something sounds, only a slide's target
-unfoldable pub note_on : Channel → Cell → SampleOption → Bool → Played
+unfoldable pub note_on : Channel → Cell → Option Sample → Bool → Played
 note_on c l None amiga = unstruck c
 note_on c l (Some s) amiga =
     pick (slides l.command && lt silence c.frequency)
@@ -74,7 +72,7 @@ note_on c l (Some s) amiga =
     (strikes (started c l (frequency_on c l.note s.c5_speed) s amiga))
 
 -- G or L without a note: back to the last one
-unfoldable pub slid_back : Channel → Cell → SampleOption → Bool → Channel
+unfoldable pub slid_back : Channel → Cell → Option Sample → Bool → Channel
 slid_back c l None amiga = c
 slid_back c l (Some s) amiga =
     pick (slides l.command && not (eqb c.last_note 0))
@@ -82,7 +80,7 @@ slid_back c l (Some s) amiga =
     c
 
 -- note 254 cuts, 255 is none
-unfoldable pub noted : Channel → Cell → SampleOption → Bool → Played
+unfoldable pub noted : Channel → Cell → Option Sample → Bool → Played
 noted c l named amiga =
     pick (eqb l.note 254) (unstruck (cut c))
     (pick (eqb l.note 255) (unstruck (slid_back c l named amiga))

@@ -1,13 +1,7 @@
 -- A channel at rest under a quiet cell: entering changes nothing there. Assumes nothing.
-use Rattle.std.specs.Prelude.{Bool, true, false, ◌&&◌, eqb}
+use Rattle.std.specs.Prelude.{Bool, ◌&&◌, eqb, is_none}
 use Rattle.tune.specs.declared.cells.Cell.{Cell}
 use Rattle.channel.specs.declared.state.Channel.{Channel}
-use Rattle.channel.specs.declared.state.TriggerOption.{TriggerOption}
-use Rattle.channel.specs.declared.state.TriggerOption.TheVariants.{None, Some}
-
-abbrev pub is_none : TriggerOption → Bool
-is_none None = true
-is_none (Some t) = false
 
 -- no command, no info, Q's counter 0 and no cell put off
 unfoldable pub at_rest : Channel → Bool

@@ -1,23 +1,22 @@
 -- A channel's half of `enter_row` (01, 'Section, second part'). Assumes nothing.
-use Rattle.std.specs.Prelude.{ℕ, ◌/◌, ◌%◌, Bool, ◌&&◌, not, List, eqb}
+use Rattle.std.specs.Prelude.{ℕ, ◌/◌, ◌%◌, Bool, ◌&&◌, not, List, eqb, Option, Some}
 use Rattle.laws.specs.Choice.{pick}
 use Rattle.tune.specs.declared.cells.Cell.{Cell}
 use Rattle.channel.specs.declared.state.Channel.{Channel}
 use Rattle.channel.specs.declared.state.Played.{Played}
 use Rattle.channel.specs.declared.state.Switches.{Switches}
-use Rattle.channel.specs.declared.state.TriggerOption.{TriggerOption}
-use Rattle.channel.specs.declared.state.TriggerOption.TheVariants.{Some}
 use Rattle.channel.specs.Set.{with_delay, with_latch}
 use Rattle.channel.specs.Memory.{begun}
 use Rattle.channel.specs.Play.{unstruck, play_cell}
 use Rattle.channel.specs.Commands.{commanded}
+use Rattle.channel.specs.declared.state.PendingTrigger.{PendingTrigger}
 
 -- SDx with x not 0, by the info in force
 abbrev pub puts_off : ℕ → ℕ → Bool
 puts_off k info = eqb k 19 && eqb (info / 16) 0xD && not (eqb (info % 16) 0)
 
 -- the cell that waits for tick x
-unfoldable pub put_off : Cell → ℕ → TriggerOption
+unfoldable pub put_off : Cell → ℕ → Option PendingTrigger
 put_off l info = Some (record { fire_tick = info % 16; note = l.note; instrument = l.instrument; volume = l.volume })
 
 -- the channel with the cell put off, where SDx asks for it

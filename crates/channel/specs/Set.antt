@@ -1,14 +1,14 @@
 -- A channel with some of its fields set, one definition for each group of fields that a step writes. Assumes nothing.
-use Rattle.std.specs.Prelude.{ℕ, Bool, List, Float}
+use Rattle.std.specs.Prelude.{ℕ, Bool, List, Float, Option}
 use Rattle.tune.specs.declared.opening.Fixed.{Fixed}
 use Rattle.channel.specs.declared.state.Channel.{Channel}
 use Rattle.channel.specs.declared.state.Oscillator.{Oscillator}
 use Rattle.channel.specs.declared.state.Tremor.{Tremor}
-use Rattle.channel.specs.declared.state.TriggerOption.{TriggerOption}
+use Rattle.channel.specs.declared.state.PendingTrigger.{PendingTrigger}
 
 -- a channel from its fields, in the Rust's order
 abbrev channel :
-    ℕ → Float → Float → ℕ → ℕ → Bool → Float → ℕ → ℕ → Oscillator → Oscillator → ℕ → TriggerOption → Bool → ℕ → Tremor → ℕ → List ℕ → Bool → Fixed →
+    ℕ → Float → Float → ℕ → ℕ → Bool → Float → ℕ → ℕ → Oscillator → Oscillator → ℕ → Option PendingTrigger → Bool → ℕ → Tremor → ℕ → List ℕ → Bool → Fixed →
     ℕ → ℕ → Channel
 channel
     instrument frequency samplePos volume pan active target command info vibrato tremolo lastNote delay glissando retrig tremor stored memory frozen
@@ -39,7 +39,7 @@ channel
     }
 
 -- what the row's command sets at once
-unfoldable pub with_row : Channel → ℕ → ℕ → TriggerOption → ℕ → List ℕ → Bool → Channel
+unfoldable pub with_row : Channel → ℕ → ℕ → Option PendingTrigger → ℕ → List ℕ → Bool → Channel
 with_row c k x d n m f =
     channel
     c.instrument c.frequency c.sample_pos c.volume c.pan c.active c.target_frequency k x c.vibrato c.tremolo
@@ -52,7 +52,7 @@ with_memory c m =
     c.tremolo c.last_note c.pending_delay c.glissando c.retrig_counter c.tremor c.stored_volume m c.frozen c.fixed
     c.opl_voice c.voice_global_vol
 
-unfoldable pub with_delay : Channel → TriggerOption → Channel
+unfoldable pub with_delay : Channel → Option PendingTrigger → Channel
 with_delay c d =
     channel
     c.instrument c.frequency c.sample_pos c.volume c.pan c.active c.target_frequency c.command c.info c.vibrato

@@ -6,8 +6,8 @@ ghost use Rattle.channel.specs.Channels.{waits, row_entered};
 
 use crate::row::enter_channel;
 use crate::state::{Channel, Switches};
-use pitch::periods::period_table;
-use tune::cells::{Cell, cell_of};
+use pitch::periods::PeriodTable;
+use tune::cells::{Cell, Row, cell_of};
 
 // The channels after a row's start, the strike mask, and the global volume that the leave sets.
 #[derive(Clone, Copy)]
@@ -38,29 +38,25 @@ pub fn hear_volume(cell: Cell, waiting: u8) -> u8
 // Every channel in turn, with its own cell and its own S info.
 pub fn enter_channels(
     channels: [Channel; 32],
-    row: &[u8],
+    row: &Row,
     s_infos: [u8; 32],
     samples: &[u8],
     w: Switches,
     global: u8,
 ) -> Rowed
-    requires { length row.now ≡ 160 }
     ensures { result ≡ row_entered row.now s_infos samples.now w global channels }
 {
-    let table = period_table();
+    let table = PeriodTable::new();
     let mut entered = channels;
     let mut strikes: u32 = 0;
     let mut waiting = global;
-    let mut i: usize = 0;
-    while i < 32 {
+    for i in 0..32 {
         let cell = cell_of(row, i);
         let c = entered[i];
         let e = enter_channel(c, cell, s_infos[i], samples, &table, w, global);
-        let d = e.channel;
-        entered[i] = d;
+        entered[i] = e.channel;
         strikes = mark(strikes, i, e.struck);
         waiting = hear_volume(cell, waiting);
-        i += 1;
     }
     Rowed {
         channels: entered,

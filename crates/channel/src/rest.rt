@@ -1,21 +1,12 @@
 // A channel at rest.
 ghost use Rattle.std.specs.Prelude.{◌≡◌};
-ghost use Rattle.channel.specs.Rest.{is_none, at_rest};
+ghost use Rattle.channel.specs.Rest.{at_rest};
 
-use crate::state::{Channel, TriggerOption};
+use crate::state::Channel;
 
-fn is_none(t: TriggerOption) -> bool
-    ensures { result ≡ is_none t }
-{
-    match t {
-        TriggerOption::None => true,
-        TriggerOption::Some(_) => false,
-    }
-}
-
+#[tactic(auto, unfolding(crate::specs::Rest::at_rest))]
 pub fn is_at_rest(c: Channel) -> bool
     ensures { result ≡ at_rest c }
 {
-    let delay = c.pending_delay;
-    (c.command == 0) & (c.info == 0) & (c.retrig_counter == 0) & is_none(delay)
+    (c.command == 0) & (c.info == 0) & (c.retrig_counter == 0) & c.pending_delay.is_none()
 }

@@ -1,7 +1,6 @@
 // A channel's state.
 ghost use Rattle.std.specs.Prelude.{◌≡◌};
 ghost use Rattle.channel.specs.Opening.{opened_channel};
-ghost use Rattle.channel.specs.Set.{with_row, with_delay};
 
 use tune::opening::{ChannelOpening, Fixed};
 
@@ -38,14 +37,8 @@ pub struct PendingTrigger {
     pub volume: u8,
 }
 
-#[derive(Clone, Copy)]
-pub enum TriggerOption {
-    None,
-    Some(PendingTrigger),
-}
-
 // The Rust's Channel, with what goes together in structs of its own. The S slot (19) of its memory is the path's, slots 27 to
-// 31 are spare. The AdLib voice is a mark: 0 none, 1 keyed, 2 released. Fields are copied one by one or together with their
+// 31 are spare. Fields are copied one by one or together with their
 // neighbours: this order takes less time a row than the Rust's.
 #[derive(Clone, Copy)]
 pub struct Channel {
@@ -57,6 +50,7 @@ pub struct Channel {
     pub volume: u8,
     pub active: bool,
     pub voice_global_vol: u8,
+    // a cell's byte, any number: no enum, for lomqashe's `state_of` and `state_bytes` keep each
     pub command: u8,
     pub pan: u8,
     pub vibrato: Oscillator,
@@ -65,10 +59,11 @@ pub struct Channel {
     pub glissando: bool,
     pub tremor: Tremor,
     pub retrig_counter: u8,
-    pub pending_delay: TriggerOption,
+    pub pending_delay: Option<PendingTrigger>,
     pub stored_volume: u8,
     pub tremolo: Oscillator,
     pub frozen: bool,
+    // 0 none, 1 keyed, 2 released, as a number: no enum, for lomqashe's `state_of` and `state_bytes` keep any other byte too
     pub opl_voice: u8,
     pub fixed: Fixed,
 }
@@ -88,6 +83,7 @@ pub struct Switches {
 }
 
 // The channel as Open gives it: the Rust's Default with the opening values.
+#[tactic(auto, unfolding(crate::specs::Opening::opened_channel))]
 pub fn open_channel(o: ChannelOpening) -> Channel
     ensures { result ≡ opened_channel o }
 {
@@ -114,7 +110,7 @@ pub fn open_channel(o: ChannelOpening) -> Channel
         vibrato,
         tremolo: vibrato,
         last_note: 0,
-        pending_delay: TriggerOption::None,
+        pending_delay: None,
         glissando: false,
         retrig_counter: 0,
         tremor,
@@ -124,61 +120,5 @@ pub fn open_channel(o: ChannelOpening) -> Channel
         fixed,
         opl_voice: 0,
         voice_global_vol: 64,
-    }
-}
-
-impl Channel {
-    // With a row's command, info and delay. The channel is made anew: a field that holds an enum cannot be stored.
-    pub fn with_row(
-        self,
-        command: u8,
-        info: u8,
-        delay: TriggerOption,
-        counter: u8,
-        frozen: bool,
-    ) -> Channel
-        ensures { result ≡ with_row self command info delay counter self.effect_memory frozen }
-    {
-        let effect_memory = self.effect_memory;
-        let vibrato = self.vibrato;
-        let tremolo = self.tremolo;
-        let tremor = self.tremor;
-        let fixed = self.fixed;
-        Channel {
-            instrument: self.instrument,
-            frequency: self.frequency,
-            sample_pos: self.sample_pos,
-            volume: self.volume,
-            pan: self.pan,
-            active: self.active,
-            target_frequency: self.target_frequency,
-            command,
-            info,
-            vibrato,
-            tremolo,
-            last_note: self.last_note,
-            pending_delay: delay,
-            glissando: self.glissando,
-            retrig_counter: counter,
-            tremor,
-            stored_volume: self.stored_volume,
-            effect_memory,
-            frozen,
-            fixed,
-            opl_voice: self.opl_voice,
-            voice_global_vol: self.voice_global_vol,
-        }
-    }
-
-    pub fn with_delay(self, delay: TriggerOption) -> Channel
-        ensures { result ≡ with_delay self delay }
-    {
-        self.with_row(
-            self.command,
-            self.info,
-            delay,
-            self.retrig_counter,
-            self.frozen,
-        )
     }
 }

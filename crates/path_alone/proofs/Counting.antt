@@ -62,11 +62,11 @@ module _ (orders cells : List ℕ) where
       pub count_ended : q.ended ≡ true → rows ≡ rows_left orders cells n p
       count_ended e = omega (arith, I.rest, rows_none (n - rows) q e)
 
-      pub count_full : n ≤ rows → rows ≡ rows_left orders cells n p
+      pub count_full : n ≤ rows → n ≡ rows_left orders cells n p
       count_full h =
           let k : n - rows ≡ 0 = omega (arith, h) in
           let z : rows_left orders cells (n - rows) q ≡ 0 = ap (λ (m : ℕ). rows_left orders cells m q) k ∙ rows_zero q in
-          omega (arith, I.rest, z)
+          omega (arith, I.few, I.rest, z)
 
       module _ (l : rows < n) (d : q.ended ≡ false) (e : Entered) (g : e ≡ entered orders cells q) where
         next : n - rows ≡ suc (n - (rows + 1))

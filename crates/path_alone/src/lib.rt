@@ -8,6 +8,7 @@ ghost use Rattle.path_alone.specs.Rows.{beyond, path_rows};
 
 use row_path::machine::{Path, enter, first_path, leave};
 
+#[tactic(auto, unfolding(crate::specs::Rows::beyond))]
 fn is_beyond(orders: usize, tempo: u8, rate: u32, n: u32) -> bool
     ensures { result ≡ beyond orders tempo rate n }
 {
@@ -19,20 +20,17 @@ fn count(orders: &[u8], cells: &[u8], p: Path, n: u32) -> u32
     ensures { result ≡ rows_left orders.now cells.now n p }
 {
     let mut path = p;
-    let mut rows: u32 = 0;
-    while rows < n {
+    for rows in 0..n {
         if path.ended {
             return rows;
         }
         let e = enter(orders, cells, path);
-        let here = e.path;
-        if here.ended {
+        if e.path.ended {
             return rows;
         }
         path = leave(orders, e);
-        rows += 1;
     }
-    rows
+    n
 }
 
 // The rows that a tune has from its start, of n; 0 where orders, tempo, rate or n are beyond what a path takes.

@@ -1,9 +1,8 @@
 -- The Amiga limits: their values, and that what they limit lies between them. Assumes nothing.
 use mathlib.Core.Path.{◌≡◌, refl, sym, ◌∙◌}
-use mathlib.Core.Bool.{Bool, true, false, true≢false}
+use mathlib.Core.Bool.{true, false, true≢false}
 use lib.IntN.{pos}
 use lib.Ieee.{Float, fin, binary32, of_bits, of_int, div, lt}
-use Rattle.laws.specs.Choice.{pick}
 use Rattle.laws.proofs.Picks.{choice}
 use Rattle.pitch.specs.Limits.{lowest, highest, limited}
 
@@ -21,12 +20,6 @@ low_is = refl
 pub high_is : div binary32 (of_bits binary32 1264220048) (of_bits binary32 1122107392) ≡ highest
 unfolding of_bits highest of_int div
 high_is = refl
-
--- `limited` by what its four tests say
-pub by_tests : (on : Bool) (x : Float) (a b c d : Bool) → on ≡ a → lt (fin false 0 (pos 0)) x ≡ b → lt x lowest ≡ c → lt highest x ≡ d
-    → limited on x ≡ pick a (pick b (pick c lowest (pick d highest x)) x) x
-unfolding limited
-by_tests on x a b c d p q r s = rw (p, q, r, s)
 
 -- the lower limit is 16726.0
 pub low_value : lowest ≡ fin false 8363 (pos 1)

@@ -7,6 +7,7 @@ const FINETUNES: [u32; 16] = [
 ];
 
 // The c5 speed of finetune x.
+#[tactic(auto, unfolding(crate::specs::Finetune::finetune_of))]
 pub fn finetune(x: usize) -> u32
     requires { x < 16 }
     ensures { result ≡ finetune_of x }

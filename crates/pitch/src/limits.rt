@@ -3,6 +3,7 @@ ghost use Rattle.std.specs.Prelude.{◌≡◌};
 ghost use Rattle.pitch.specs.Limits.{limited};
 
 // A frequency within the Amiga limits, where they are on.
+#[tactic(auto, using(crate::proofs::Clamped::zero_is, crate::proofs::Clamped::low_is, crate::proofs::Clamped::high_is), unfolding(crate::specs::Limits::limited))]
 pub fn clamp_amiga(x: f32, on: bool) -> f32
     ensures { result ≡ limited on x }
 {

@@ -5,6 +5,7 @@ ghost use Rattle.std.specs.Float.Ieee.{of_int};
 ghost use Rattle.pitch.specs.Offset.{offset_of};
 
 // The offset of a sample, folded into its loop.
+#[tactic(auto, unfolding(crate::specs::Offset::offset_of))]
 fn fold(offset: u32, looped: bool, start: u32, end: u32, length: u32) -> u32
     ensures { result ≡ offset_of offset looped start end length }
 {

@@ -14,23 +14,44 @@ const PERIODS: [u32; 36] = [
     56,
 ];
 
-// The 36 periods, to be lent. An array is built where it is named: a loop names it once, before it starts.
-pub fn period_table() -> [u32; 36]
-    ensures { result ≡ kept_periods }
-{
-    PERIODS
+// The 36 periods, to be lent. An array is built where it is named: a loop builds the table once, before it starts.
+#[derive(Drop)]
+pub struct PeriodTable {
+    entries: [u32; 36],
+    pub ghost kept: { entries ≡ kept_periods },
 }
 
-// The period of note number n: up to 83 the octave 0 entry shifted right by the octave.
-pub fn period(n: usize, table: &[u32]) -> u32
-    requires in_table { n < 108 }
-    requires kept { table.now ≡ kept_periods }
-    ensures { result ≡ period_of n }
-{
-    if n < 84 {
-        table[n % 12] >> (n / 12)
-    } else {
-        table[n - 72]
+impl PeriodTable {
+    pub fn new() -> Self
+        ensures { result.entries ≡ kept_periods }
+    {
+        PeriodTable { entries: PERIODS }
+    }
+
+    // The period of note number n: up to 83 the octave 0 entry shifted right by the octave.
+    #[tactic(auto, using(crate::proofs::Shifted::by_shift, crate::proofs::Shifted::by_entry))]
+    pub fn period(&self, n: usize) -> u32
+        requires in_table { n < 108 }
+        ensures { result ≡ period_of n }
+    {
+        if n < 84 {
+            self.entries[n % 12] >> (n / 12)
+        } else {
+            self.entries[n - 72]
+        }
+    }
+
+    // A note byte's period with a transposition. Numbers 0 to 83 are not cut: there the cut would cost each note three
+    // instructions.
+    #[tactic(auto, using(crate::proofs::Transposed::number_passed))]
+    pub fn note_period(&self, note: u8, transposition: i8) -> u32
+        ensures { result ≡ period_of (note_number note transposition) }
+    {
+        let n = raised_number(note, transposition);
+        if (n < 128) | (212 <= n) {
+            return self.period(note_number(note, transposition));
+        }
+        self.period(n - 128)
     }
 }
 
@@ -49,26 +70,12 @@ fn raised_number(note: u8, transposition: i8) -> usize
 }
 
 // A note byte's number with a transposition.
+#[tactic(auto, using(crate::proofs::Transposed::number_passed))]
 pub fn note_number(note: u8, transposition: i8) -> usize
     ensures value { result ≡ note_number note transposition }
     ensures within { result < 108 }
 {
-    let n = raised_number(note, transposition);
-    if n < 128 {
-        return 0;
-    }
-    if n < 235 { n - 128 } else { 107 }
-}
-
-// A note byte's period with a transposition. Numbers 0 to 83 are not cut: there the cut would cost each note three
-// instructions.
-pub fn note_period(note: u8, transposition: i8, table: &[u32]) -> u32
-    requires { table.now ≡ kept_periods }
-    ensures { result ≡ period_of (note_number note transposition) }
-{
-    let n = raised_number(note, transposition);
-    if (n < 128) | (212 <= n) {
-        return period(note_number(note, transposition), table);
-    }
-    period(n - 128, table)
+    raised_number(note, transposition)
+        .saturating_sub(128)
+        .min(107)
 }

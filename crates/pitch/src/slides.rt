@@ -72,6 +72,7 @@ const FACTORS: [f32; 64] = [
     1.0033901929855347,
 ];
 
+#[tactic(auto, unfolding(crate::specs::Slides::factor_of))]
 fn factor(i: usize) -> f32
     requires { i < 64 }
     ensures { result ≡ factor_of i }
@@ -79,7 +80,7 @@ fn factor(i: usize) -> f32
     FACTORS[i]
 }
 
-// The first factor's number for F (up) and for E (down).
+// The first factor's number for F (up) and for E (down): a half of the table, and no other step.
 fn group(up: bool) -> usize
     ensures { (result ≡ pick up 32 0) × (result ≤ 32) }
 {
@@ -102,6 +103,7 @@ fn factor_number(up: bool, info: u8) -> usize
 }
 
 // A frequency slid by a fine E (down) or F (up).
+#[tactic(auto, unfolding(crate::specs::Slides::slid))]
 pub fn fine_slide(x: f32, up: bool, info: u8) -> f32
     ensures { result ≡ slid x (factor_number up info) }
 {

@@ -1,6 +1,7 @@
 -- What enter and leave keep, whatever numbers the tables hold. Assumes nothing.
-use Prim.Native.Nat.{ℕ, ◌+◌, ◌^◌, ◌≤◌, ◌<◌}
-use mathlib.Core.Path.{◌≡◌, refl, ap, ◌∙◌}
+use Rattle.std.specs.Prelude.{None, Option, Some}
+use Prim.Native.Nat.{ℕ, ◌≤◌, ◌<◌}
+use mathlib.Core.Path.{◌≡◌, refl}
 use mathlib.Core.Bool.{false}
 use mathlib.Core.List.{List}
 use native.Mathlib.Omega.{arith}
@@ -8,17 +9,12 @@ use Rattle.laws.proofs.Picks.{choice, not_both}
 use Rattle.tune.specs.Sizes.{pattern_count}
 use Rattle.row_path.specs.Orders.{skipped, pattern_at}
 use Rattle.row_path.specs.Enter.{ended_at, arrived, acted, visited, entered_at, entered}
-use Rattle.row_path.specs.Card.{length_of}
 use Rattle.row_path.specs.Leave.{left}
 use Rattle.row_path.specs.Sound.{Bounded, BoundedEntered}
-use Rattle.row_path.specs.declared.option.ByteOption.{ByteOption}
-use Rattle.row_path.specs.declared.option.ByteOption.TheVariants.{None, Some}
 use Rattle.row_path.specs.declared.machine.Path.{Path}
 use Rattle.row_path.specs.declared.machine.Entered.{Entered}
-use Rattle.row_path.proofs.Lengths.{length-fits}
 use Rattle.row_path.proofs.Keeping.{Keeps, entered_keeps, left_keeps}
 use Rattle.row_path.proofs.Named.{named_below}
-use Rattle.row_path.proofs.Unmoved.{left_start}
 
 abbrev Any : ℕ → Type 0
 Any x = Unit
@@ -46,7 +42,7 @@ visited_pattern : (cells : List ℕ) (p : Path) (pattern : ℕ) → (visited cel
 unfolding visited acted
 visited_pattern cells p pattern = choice (λ (e : Entered). e.pattern ≡ pattern) p.hold.held (λ _. refl) (λ _. refl)
 
-at_named : (cells : List ℕ) (p : Path) (order n : ℕ) (named : ByteOption) → ((v : ℕ) → named ≡ Some v → v < n) → (entered_at cells p order named).path.ended ≡ false → (entered_at cells p order named).pattern < n
+at_named : (cells : List ℕ) (p : Path) (order n : ℕ) (named : Option ℕ) → ((v : ℕ) → named ≡ Some v → v < n) → (entered_at cells p order named).path.ended ≡ false → (entered_at cells p order named).pattern < n
 unfolding entered_at ended_at
 at_named cells p order n None h e = absurd (not_both e)
 at_named cells p order n (Some v) h e = omega (arith, visited_pattern cells (arrived p order) v, h v refl)
@@ -57,9 +53,3 @@ unfolding entered
 entered_named orders cells p e =
     let order = skipped orders p.place.order in
     at_named cells p order (pattern_count cells) (pattern_at orders (pattern_count cells) order) (named_below orders (pattern_count cells) order) e
-
--- leave adds less than 2^32 to the card start
-pub left_within : (orders : List ℕ) (e : Entered) (r : Path) → e.path.clock.speed ≤ 255 → e.path.clock.rate ≤ 100000 → e.path.clock.remainder < 65536 → r ≡ left orders e → r.clock.start ≤ e.path.clock.start + 2 ^ 32
-left_within orders e r hs hr hm q =
-    let s : r.clock.start ≡ e.path.clock.start + length_of e.path.clock = ap (λ (p : Path). p.clock.start) q ∙ left_start orders e in
-    omega (arith, length-fits e.path.clock hs hr hm)

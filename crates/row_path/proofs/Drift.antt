@@ -1,4 +1,5 @@
 -- The card start does not drift: rows at one tempo lose nothing, and a change of tempo less than one unit. Assumes nothing.
+use Rattle.std.specs.Prelude.{None, Option, Some}
 use Prim.Native.Nat.{ℕ, zero, suc, ◌+◌, ◌*◌, ◌/◌, ◌%◌, ◌<◌}
 use mathlib.Core.Path.{◌≡◌, refl, sym, ap, ◌∙◌, subst}
 use mathlib.Core.Bool.{true, false}
@@ -11,8 +12,6 @@ use Rattle.row_path.specs.Enter.{ended_at, arrived, clock_at, paced, settled, ac
 use Rattle.row_path.specs.Leave.{ticked, left}
 use Rattle.row_path.specs.Walk.{Turn, turn, turn_by, Walk, onward, more, path_walk}
 use Rattle.row_path.specs.Drift.{card_at, units_of_all, AllAt, RunOn, Retimed}
-use Rattle.row_path.specs.declared.option.ByteOption.{ByteOption}
-use Rattle.row_path.specs.declared.option.ByteOption.TheVariants.{None, Some}
 use Rattle.row_path.specs.declared.machine.Clock.{Clock}
 use Rattle.row_path.specs.declared.machine.Path.{Path}
 use Rattle.row_path.specs.declared.machine.Entered.{Entered}
@@ -44,12 +43,12 @@ visited_paced : (cells : List ℕ) (p : Path) (pattern : ℕ) → p.clock.remain
 unfolding visited acted settled paced clock_at
 visited_paced cells p pattern h = choice (Paced p) p.hold.held (λ _. unpaced p.clock h) (λ _. refl)
 
-at_paced : (cells : List ℕ) (p : Path) (order : ℕ) (named : ByteOption) → p.clock.remainder < 2 * p.clock.tempo → Paced p (entered_at cells p order named)
+at_paced : (cells : List ℕ) (p : Path) (order : ℕ) (named : Option ℕ) → p.clock.remainder < 2 * p.clock.tempo → Paced p (entered_at cells p order named)
 unfolding entered_at ended_at arrived
 at_paced cells p order None h = unpaced p.clock h
 at_paced cells p order (Some v) h = visited_paced cells (arrived p order) v h
 
-at_ended : (cells : List ℕ) (p : Path) (order : ℕ) (named : ByteOption) → p.ended ≡ false → (entered_at cells p order named).path.ended ≡ true → (entered_at cells p order named).path.clock ≡ p.clock
+at_ended : (cells : List ℕ) (p : Path) (order : ℕ) (named : Option ℕ) → p.ended ≡ false → (entered_at cells p order named).path.ended ≡ true → (entered_at cells p order named).path.clock ≡ p.clock
 unfolding entered_at ended_at arrived visited acted settled
 at_ended cells p order None f = λ t. refl
 at_ended cells p order (Some v) f = choice (λ (e : Entered). e.path.ended ≡ true → e.path.clock ≡ p.clock) p.hold.held (λ _ _. refl) (λ _ t. cc)

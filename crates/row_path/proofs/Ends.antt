@@ -1,4 +1,5 @@
 -- Where the skipping stops, what ends a tune, and which jump a row takes. Assumes nothing.
+use Rattle.std.specs.Prelude.{None, Option, Some, is_some}
 use Prim.Native.Nat.{ℕ, suc, ◌+◌, ◌≤◌}
 use mathlib.Core.Path.{◌≡◌, refl}
 use mathlib.Core.Bool.{Bool, true, false, not, ◌&&◌, ◌||◌}
@@ -13,14 +14,11 @@ use Rattle.tune.specs.Sizes.{pattern_count}
 use Rattle.row_path.specs.Orders.{skip_from, skipped, pattern_at}
 use Rattle.row_path.specs.Loops.{turns, again, requested, looped, jump_of}
 use Rattle.row_path.specs.Enter.{ended_at, arrived, settled, acted, visited, looped_by, entered_at, entered}
-use Rattle.row_path.specs.Leave.{jumps, place_after, held_on, gone_on, left}
-use Rattle.row_path.specs.declared.option.ByteOption.{ByteOption}
-use Rattle.row_path.specs.declared.option.ByteOption.TheVariants.{None, Some}
+use Rattle.row_path.specs.Leave.{place_after, held_on, gone_on, left}
 use Rattle.row_path.specs.declared.scan.Scan.{Scan}
 use Rattle.row_path.specs.declared.loops.Place.{Place}
 use Rattle.row_path.specs.declared.loops.PatternLoop.{PatternLoop}
 use Rattle.row_path.specs.declared.loops.Jump.{Jump}
-use Rattle.row_path.specs.declared.loops.Jump.TheVariants.{Stay, To}
 use Rattle.row_path.specs.declared.machine.Path.{Path}
 use Rattle.row_path.specs.declared.machine.Entered.{Entered}
 
@@ -44,7 +42,7 @@ pub skipped_least : (orders : List ℕ) (at : ℕ) → at ≤ skipped orders at
 unfolding skipped
 skipped_least orders at = skip_least (drop at orders) at
 
-ended_at_lem : (cells : List ℕ) (p : Path) (order : ℕ) (named : ByteOption) → p.ended ≡ true → (entered_at cells p order named).path.ended ≡ true
+ended_at_lem : (cells : List ℕ) (p : Path) (order : ℕ) (named : Option ℕ) → p.ended ≡ true → (entered_at cells p order named).path.ended ≡ true
 unfolding entered_at ended_at arrived visited acted settled
 ended_at_lem cells p order None h = refl
 ended_at_lem cells p order (Some v) h = choice (λ (e : Entered). e.path.ended ≡ true) p.hold.held (λ _. h) (λ _. h)
@@ -66,35 +64,35 @@ or_last false b e = e
 pub left_ended : (orders : List ℕ) (e : Entered) → e.path.ended ≡ true → (left orders e).ended ≡ true
 unfolding left held_on gone_on
 left_ended orders e h =
-    choice (λ (q : Path). q.ended ≡ true) (ltb 0 e.path.hold.left && not (jumps e.jump)) (λ _. h) (λ _. or_first e.path.ended _ h)
+    choice (λ (q : Path). q.ended ≡ true) (ltb 0 e.path.hold.left && not (is_some e.jump)) (λ _. h) (λ _. or_first e.path.ended _ h)
 
 -- a row that is left for an order at or past the list's end ends the tune
 pub past_end : (orders : List ℕ) (e : Entered) → length orders ≤ (left orders e).place.order → (left orders e).hold.held ≡ false → (left orders e).ended ≡ true
 unfolding left held_on gone_on
 past_end orders e =
-    choice (λ (q : Path). length orders ≤ q.place.order → q.hold.held ≡ false → q.ended ≡ true) (ltb 0 e.path.hold.left && not (jumps e.jump))
+    choice (λ (q : Path). length orders ≤ q.place.order → q.hold.held ≡ false → q.ended ≡ true) (ltb 0 e.path.hold.left && not (is_some e.jump))
     (λ _ l n. cc)
     (λ _ l n. or_last e.path.ended _ (le-leb _ _ l))
 
 abbrev Goes : ℕ → Path → Type 0
 Goes row q = (q.hold.held ≡ false) × (q.place.row ≡ row)
 
-goes : (b : Bool) (n : ℕ) (p : Path) (j : Jump) (order : ByteOption) (row : ℕ) → j ≡ To order row → Goes row (pick (b && not (jumps j)) (held_on p) (gone_on n p (place_after j p.place)))
+goes : (b : Bool) (n : ℕ) (p : Path) (j : Option Jump) (order : Option ℕ) (row : ℕ) → j ≡ Some (record { order = order; row = row }) → Goes row (pick (b && not (is_some j)) (held_on p) (gone_on n p (place_after j p.place)))
 unfolding gone_on
-goes b n p Stay order row e = (cc, cc)
-goes true n p (To o r) order row e = (refl, cc)
-goes false n p (To o r) order row e = (refl, cc)
+goes b n p None order row e = (cc, cc)
+goes true n p (Some to) order row e = (refl, cc)
+goes false n p (Some to) order row e = (refl, cc)
 
 -- a row that also jumps is not held: it goes to the jump's row
-pub jump_not_held : (orders : List ℕ) (e : Entered) (order : ByteOption) (row : ℕ) → e.jump ≡ To order row → ((left orders e).hold.held ≡ false) × ((left orders e).place.row ≡ row)
+pub jump_not_held : (orders : List ℕ) (e : Entered) (order : Option ℕ) (row : ℕ) → e.jump ≡ Some (record { order = order; row = row }) → ((left orders e).hold.held ≡ false) × ((left orders e).place.row ≡ row)
 unfolding left
 jump_not_held orders e order row h = goes (ltb 0 e.path.hold.left) (length orders) e.path e.jump order row h
 
-beats : (asked : ByteOption) (n : ℕ) (at : Place) (l : PatternLoop) (j : Jump) → asked ≡ Some n → (n ≡ 0 → ⊥) → (turns n l.count ≡ 0 → ⊥) → (looped asked at l j).jump ≡ To (Some at.order) l.start_row
+beats : (asked : Option ℕ) (n : ℕ) (at : Place) (l : PatternLoop) (j : Option Jump) → asked ≡ Some n → (n ≡ 0 → ⊥) → (turns n l.count ≡ 0 → ⊥) → (looped asked at l j).jump ≡ Some (record { order = Some at.order; row = l.start_row })
 unfolding looped requested again
 beats asked n at l j e f g = rw (e, ne_eqb _ _ f, ne_eqb _ _ g)
 
 -- a loop that is taken beats B and C
-pub loop_beats : (p : Path) (a : Scan) (n : ℕ) → a.row_loop_request ≡ Some n → (n ≡ 0 → ⊥) → (turns n p.pattern_loop.count ≡ 0 → ⊥) → (looped_by p a).jump ≡ To (Some p.place.order) p.pattern_loop.start_row
+pub loop_beats : (p : Path) (a : Scan) (n : ℕ) → a.row_loop_request ≡ Some n → (n ≡ 0 → ⊥) → (turns n p.pattern_loop.count ≡ 0 → ⊥) → (looped_by p a).jump ≡ Some (record { order = Some p.place.order; row = p.pattern_loop.start_row })
 unfolding looped_by
 loop_beats p a n e f g = beats a.row_loop_request n p.place p.pattern_loop (jump_of a.jump_row a.jump_order) e f g

@@ -1,4 +1,5 @@
 -- What enter and leave keep, for any claims on orders, speeds and the rate: Kept and Bounded are its two cases. Assumes nothing.
+use Rattle.std.specs.Prelude.{None, Option, Some, unwrap_or, is_some}
 use Prim.Native.Nat.{ℕ, zero, suc, ◌*◌, ◌/◌, ◌≤◌, ◌<◌}
 use mathlib.Core.Path.{◌≡◌}
 use mathlib.Core.Bool.{false, not, ◌&&◌}
@@ -9,26 +10,23 @@ use lib.Dec.{eqb, ltb}
 use lib.ListN.{get_or, set}
 use Rattle.laws.proofs.Picks.{choice}
 use Rattle.tune.specs.Cells.{row_cells, cell_of}
-use Rattle.row_path.specs.Option.{is_at, or_before}
+use Rattle.row_path.specs.Option.{is_at}
 use Rattle.row_path.specs.Orders.{next_order, skipped}
 use Rattle.row_path.specs.Scan.{scan_speed, scan_tempo, scan_order, scan_row, scan_loop, scan_delay, scan_info, special, special_at, break_row, heard, scanned, first_scan}
 use Rattle.row_path.specs.Loops.{scoped, jump_of, turns, again, requested, looped}
 use Rattle.row_path.specs.Enter.{ended_at, arrived, clock_at, paced, settled, looped_by, acted, visited, entered_at, entered}
-use Rattle.row_path.specs.Leave.{ticked, jumps, place_after, held_on, gone_on, left}
+use Rattle.row_path.specs.Leave.{ticked, place_after, held_on, gone_on, left}
 use Rattle.row_path.specs.Sound.{Each, JumpTo}
-use Rattle.row_path.specs.declared.option.ByteOption.{ByteOption}
-use Rattle.row_path.specs.declared.option.ByteOption.TheVariants.{None, Some}
 use Rattle.row_path.specs.declared.scan.Scan.{Scan}
 use Rattle.row_path.specs.declared.loops.Place.{Place}
 use Rattle.row_path.specs.declared.loops.PatternLoop.{PatternLoop}
 use Rattle.row_path.specs.declared.loops.Jump.{Jump}
-use Rattle.row_path.specs.declared.loops.Jump.TheVariants.{Stay, To}
 use Rattle.row_path.specs.declared.loops.Looped.{Looped}
 use Rattle.row_path.specs.declared.machine.Path.{Path}
 use Rattle.row_path.specs.declared.machine.Entered.{Entered}
 use Rattle.row_path.proofs.Lengths.{rest_small, rescaled_small}
 
-kept : (P : ℕ → Type 0) (o : ByteOption) (before : ℕ) → Each P o → P before → P (or_before o before)
+kept : (P : ℕ → Type 0) (o : Option ℕ) (before : ℕ) → Each P o → P before → P (unwrap_or o before)
 kept P None before h b = b
 kept P (Some x) before h b = h
 
@@ -90,12 +88,12 @@ module _ (B O S R : ℕ → Type 0) (order_of : (x : ℕ) → B x → O x) (spee
   unfolding first_scan
   first_kept infos = record { speed = tt; tempo = tt; order = tt; row = tt }
 
-  jump_kept : (row order : ByteOption) → Each (λ x. x ≤ 63) row → Each O order → JumpTo O (jump_of row order)
+  jump_kept : (row order : Option ℕ) → Each (λ x. x ≤ 63) row → Each O order → JumpTo O (jump_of row order)
   jump_kept (Some r) order hr ho = (ho, hr)
   jump_kept None (Some o) hr ho = (ho, omega arith)
   jump_kept None None hr ho = tt
 
-  looped_kept : (asked : ByteOption) (at : Place) (l : PatternLoop) (j : Jump) → O at.order → at.row ≤ 63 → l.start_row ≤ 63 → JumpTo O j → KeepsLoop O (looped asked at l j)
+  looped_kept : (asked : Option ℕ) (at : Place) (l : PatternLoop) (j : Option Jump) → O at.order → at.row ≤ 63 → l.start_row ≤ 63 → JumpTo O j → KeepsLoop O (looped asked at l j)
   unfolding looped requested again
   looped_kept None at l j ho hr hs hj = (hs, hj)
   looped_kept (Some p) at l j ho hr hs hj =
@@ -129,7 +127,7 @@ module _ (B O S R : ℕ → Type 0) (order_of : (x : ℕ) → B x → O x) (spee
       choice KE p.hold.held (λ _. (h, tt))
       (λ _. acted_kept p pattern _ h (scanned_kept (row_cells cells pattern p.place.row) 32 (first_scan p.s_info) b (first_kept p.s_info)))
 
-  at_kept : (cells : List ℕ) (p : Path) (order : ℕ) (named : ByteOption) → ((v r k : ℕ) → B (get_or (row_cells cells v r) k 0)) → O order → Keeps O S R p → KE (entered_at cells p order named)
+  at_kept : (cells : List ℕ) (p : Path) (order : ℕ) (named : Option ℕ) → ((v r k : ℕ) → B (get_or (row_cells cells v r) k 0)) → O order → Keeps O S R p → KE (entered_at cells p order named)
   unfolding entered_at ended_at arrived
   at_kept cells p order None b o h = (record { order = o; row = h.row; start_row = h.start_row; speed = h.speed; tempo = h.tempo; rate = h.rate; remainder = h.remainder }, tt)
   at_kept cells p order (Some v) b o h =
@@ -140,9 +138,9 @@ module _ (B O S R : ℕ → Type 0) (order_of : (x : ℕ) → B x → O x) (spee
   unfolding entered
   entered_keeps orders cells p b o h = at_kept cells p _ _ b o h
 
-  place_kept : (j : Jump) (at : Place) → JumpTo O j → O at.order → at.row ≤ 63 → O (place_after j at).order × ((place_after j at).row ≤ 63)
-  place_kept (To order row) at j ho hr = (kept O order _ j.0 (next at.order), j.1)
-  place_kept Stay at j ho hr =
+  place_kept : (j : Option Jump) (at : Place) → JumpTo O j → O at.order → at.row ≤ 63 → O (place_after j at).order × ((place_after j at).row ≤ 63)
+  place_kept (Some to) at j ho hr = (kept O to.order _ j.0 (next at.order), j.1)
+  place_kept None at j ho hr =
       choice (λ (q : Place). O q.order × (q.row ≤ 63)) (ltb at.row 63) (λ e. (ho, omega (arith, ltb-true at.row 63 e))) (λ _. (next at.order, omega arith))
 
   pub left_keeps : (orders : List ℕ) (e : Entered) → Keeps O S R e.path → JumpTo O e.jump → Keeps O S R (left orders e)
@@ -150,6 +148,6 @@ module _ (B O S R : ℕ → Type 0) (order_of : (x : ℕ) → B x → O x) (spee
   left_keeps orders e h j =
       let p = place_kept e.jump e.path.place j h.order h.row in
       let rest = rest_small e.path.clock (omega (arith, h.tempo)) in
-      choice (Keeps O S R) (ltb 0 e.path.hold.left && not (jumps e.jump))
+      choice (Keeps O S R) (ltb 0 e.path.hold.left && not (is_some e.jump))
       (λ _. record { order = h.order; row = h.row; start_row = h.start_row; speed = h.speed; tempo = h.tempo; rate = h.rate; remainder = rest })
       (λ _. record { order = p.0; row = p.1; start_row = h.start_row; speed = h.speed; tempo = h.tempo; rate = h.rate; remainder = rest })

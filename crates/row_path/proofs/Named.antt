@@ -1,4 +1,5 @@
 -- A pattern that an order names is one of the patterns. Assumes nothing.
+use Rattle.std.specs.Prelude.{None, Some}
 use Prim.Native.Nat.{ℕ, ◌<◌}
 use mathlib.Core.Path.{◌≡◌, refl}
 use mathlib.Core.Bool.{Bool, true, false}
@@ -9,7 +10,6 @@ use lib.Dec.{eqb, ltb}
 use lib.ListN.{get_or, length}
 use Rattle.laws.specs.Choice.{pick}
 use Rattle.row_path.specs.Orders.{pattern_at}
-use Rattle.row_path.specs.declared.option.ByteOption.TheVariants.{None, Some}
 
 by_tests : (a b d : Bool) (x v : ℕ) → pick a (pick b None (pick d (Some x) None)) None ≡ Some v → (a ≡ true) × (d ≡ true) × (x ≡ v)
 by_tests true false true x v e = (refl, refl, cc)

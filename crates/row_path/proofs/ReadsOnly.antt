@@ -1,4 +1,5 @@
 -- Enter reads only the cells with A, B, C, S or T. Assumes nothing.
+use Rattle.std.specs.Prelude.{None, Option, Some}
 use Prim.Native.Nat.{ℕ, zero, suc, ◌+◌, ◌*◌, ◌<◌}
 use mathlib.Core.Path.{◌≡◌, refl, sym, ap, ◌∙◌}
 use mathlib.Core.Bool.{Bool, true, false, ◌||◌}
@@ -12,8 +13,6 @@ use Rattle.tune.specs.Cells.{row_place, row_cells, cell_of}
 use Rattle.row_path.specs.Scan.{heard, scanned, first_scan}
 use Rattle.row_path.specs.Enter.{arrived, visited, entered_at, entered}
 use Rattle.row_path.specs.Steering.{steers, command_at, info_at, SteerAlike}
-use Rattle.row_path.specs.declared.option.ByteOption.{ByteOption}
-use Rattle.row_path.specs.declared.option.ByteOption.TheVariants.{None, Some}
 use Rattle.row_path.specs.declared.scan.Scan.{Scan}
 use Rattle.row_path.specs.declared.machine.Path.{Path}
 
@@ -60,7 +59,7 @@ visited_same s t p v h =
     rw (scan_same (row_cells s v p.place.row) (row_cells t v p.place.row) 32 (first_scan p.s_info)
     (λ k l. row_alike s t v p.place.row k l (h (v * 2048 + p.place.row * 32 + k))))
 
-at_same : (s t : List ℕ) (p : Path) (order : ℕ) (named : ByteOption) → ((k : ℕ) → SteerAlike s t k) → entered_at s p order named ≡ entered_at t p order named
+at_same : (s t : List ℕ) (p : Path) (order : ℕ) (named : Option ℕ) → ((k : ℕ) → SteerAlike s t k) → entered_at s p order named ≡ entered_at t p order named
 unfolding entered_at
 at_same s t p order None h = refl
 at_same s t p order (Some v) h = visited_same s t (arrived p order) v h

@@ -1,4 +1,5 @@
 -- What enter and leave leave as it was: rate, card start, row and the number of S infos. Assumes nothing.
+use Rattle.std.specs.Prelude.{None, Option, Some, is_some}
 use Prim.Native.Nat.{ℕ, zero, suc, ◌+◌, ◌/◌}
 use mathlib.Core.Path.{◌≡◌, refl, ap, ◌∙◌}
 use mathlib.Core.Bool.{not, ◌&&◌}
@@ -12,9 +13,7 @@ use Rattle.row_path.specs.Orders.{skipped, pattern_at}
 use Rattle.row_path.specs.Scan.{scan_speed, scan_tempo, scan_order, scan_row, scan_loop, scan_delay, scan_info, special, special_at, break_row, heard, scanned, first_scan}
 use Rattle.row_path.specs.Enter.{ended_at, arrived, clock_at, paced, settled, acted, visited, entered_at, entered}
 use Rattle.row_path.specs.Card.{length_of}
-use Rattle.row_path.specs.Leave.{ticked, jumps, held_on, gone_on, left}
-use Rattle.row_path.specs.declared.option.ByteOption.{ByteOption}
-use Rattle.row_path.specs.declared.option.ByteOption.TheVariants.{None, Some}
+use Rattle.row_path.specs.Leave.{ticked, held_on, gone_on, left}
 use Rattle.row_path.specs.declared.scan.Scan.{Scan}
 use Rattle.row_path.specs.declared.machine.Clock.{Clock}
 use Rattle.row_path.specs.declared.machine.Path.{Path}
@@ -64,7 +63,7 @@ visited_unmoved cells p pattern =
     (λ _. record { rate = refl; start = refl; row = refl; size = refl })
     (λ _. record { rate = refl; start = refl; row = refl; size = scanned_size (length p.s_info) (row_cells cells pattern p.place.row) 32 (first_scan p.s_info) (first_size p.s_info) })
 
-at_unmoved : (cells : List ℕ) (p : Path) (order : ℕ) (named : ByteOption) → Unmoved p (entered_at cells p order named).path
+at_unmoved : (cells : List ℕ) (p : Path) (order : ℕ) (named : Option ℕ) → Unmoved p (entered_at cells p order named).path
 unfolding entered_at ended_at arrived
 at_unmoved cells p order None = record { rate = refl; start = refl; row = refl; size = refl }
 at_unmoved cells p order (Some pattern) =
@@ -92,7 +91,7 @@ module _ (orders : List ℕ) (e : Entered) where
   -- leave does nothing else to the clock than its tick
   pub left_clock : (left orders e).clock ≡ ticked e.path.clock
   unfolding left held_on gone_on
-  left_clock = choice (λ (q : Path). q.clock ≡ ticked e.path.clock) (ltb 0 e.path.hold.left && not (jumps e.jump)) (λ _. refl) (λ _. refl)
+  left_clock = choice (λ (q : Path). q.clock ≡ ticked e.path.clock) (ltb 0 e.path.hold.left && not (is_some e.jump)) (λ _. refl) (λ _. refl)
 
   -- leave adds the row's length to the card start
   pub left_start : (left orders e).clock.start ≡ e.path.clock.start + length_of e.path.clock
@@ -102,4 +101,4 @@ module _ (orders : List ℕ) (e : Entered) where
   -- leave keeps the number of S infos
   pub left_size : length (left orders e).s_info ≡ length e.path.s_info
   unfolding left held_on gone_on
-  left_size = choice (λ (q : Path). length q.s_info ≡ length e.path.s_info) (ltb 0 e.path.hold.left && not (jumps e.jump)) (λ _. refl) (λ _. refl)
+  left_size = choice (λ (q : Path). length q.s_info ≡ length e.path.s_info) (ltb 0 e.path.hold.left && not (is_some e.jump)) (λ _. refl) (λ _. refl)

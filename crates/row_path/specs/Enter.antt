@@ -1,17 +1,13 @@
 -- Enter (01, 'Section, first part'). Assumes nothing.
-use Rattle.std.specs.Prelude.{ℕ, true, List}
+use Rattle.std.specs.Prelude.{ℕ, true, List, None, Option, Some, unwrap_or}
 use Rattle.laws.specs.Choice.{pick}
 use Rattle.tune.specs.Sizes.{pattern_count}
 use Rattle.tune.specs.Cells.{row_cells}
-use Rattle.row_path.specs.Option.{or_before}
 use Rattle.row_path.specs.Orders.{skipped, pattern_at}
 use Rattle.row_path.specs.Scan.{scanned, first_scan}
 use Rattle.row_path.specs.Loops.{scoped, jump_of, looped}
 use Rattle.row_path.specs.Card.{rescaled}
-use Rattle.row_path.specs.declared.option.ByteOption.{ByteOption}
-use Rattle.row_path.specs.declared.option.ByteOption.TheVariants.{None, Some}
 use Rattle.row_path.specs.declared.scan.Scan.{Scan}
-use Rattle.row_path.specs.declared.loops.Jump.TheVariants.{Stay}
 use Rattle.row_path.specs.declared.loops.Looped.{Looped}
 use Rattle.row_path.specs.declared.machine.Clock.{Clock}
 use Rattle.row_path.specs.declared.machine.Hold.{Hold}
@@ -49,10 +45,10 @@ clock_at c speed tempo =
 
 -- step 7: speed and tempo hold from this row on; a hold request sets hold, also to 0
 unfoldable pub paced : Clock → Scan → Clock
-paced c a = clock_at c (or_before a.row_speed c.speed) (or_before a.row_tempo c.tempo)
+paced c a = clock_at c (unwrap_or a.row_speed c.speed) (unwrap_or a.row_tempo c.tempo)
 
 unfoldable pub delayed : Hold → Scan → Hold
-delayed h a = record { left = or_before a.row_pattern_delay h.left; held = h.held }
+delayed h a = record { left = unwrap_or a.row_pattern_delay h.left; held = h.held }
 
 -- steps 5 to 7
 unfoldable pub settled : Path → Scan → Looped → Path
@@ -76,11 +72,11 @@ acted p pattern a = record { path = settled p a (looped_by p a); jump = (looped_
 unfoldable pub visited : List ℕ → Path → ℕ → Entered
 visited cells p pattern =
     pick p.hold.held
-    (record { path = p; jump = Stay; pattern = pattern })
+    (record { path = p; jump = None; pattern = pattern })
     (acted p pattern (scanned (row_cells cells pattern p.place.row) 32 (first_scan p.s_info)))
 
-unfoldable pub entered_at : List ℕ → Path → ℕ → ByteOption → Entered
-entered_at cells p order None = record { path = ended_at p order; jump = Stay; pattern = 0 }
+unfoldable pub entered_at : List ℕ → Path → ℕ → Option ℕ → Entered
+entered_at cells p order None = record { path = ended_at p order; jump = None; pattern = 0 }
 entered_at cells p order (Some pattern) = visited cells (arrived p order) pattern
 
 unfoldable pub entered : List ℕ → List ℕ → Path → Entered

@@ -1,6 +1,5 @@
 -- A tune's path where it opens (01, 'Open'). Assumes nothing.
-use Rattle.std.specs.Prelude.{ℕ, false, replicate}
-use Rattle.row_path.specs.declared.option.ByteOption.TheVariants.{None}
+use Rattle.std.specs.Prelude.{ℕ, false, replicate, None}
 use Rattle.row_path.specs.declared.machine.Path.{Path}
 
 -- order 0, row 0, loop order and count absent, loop start 0, hold 0, held no, card start 0, ended no; S infos at first 0;

@@ -1,12 +1,10 @@
 -- Leave (01, 'Section, first part'). Assumes nothing.
-use Rattle.std.specs.Prelude.{ℕ, ◌+◌, ◌-◌, Bool, true, false, not, ◌&&◌, ◌||◌, List, ltb, leb, length}
+use Rattle.std.specs.Prelude.{ℕ, ◌+◌, ◌-◌, true, false, not, ◌&&◌, ◌||◌, List, ltb, leb, length, unwrap_or, None, Option, Some, is_some}
 use Rattle.laws.specs.Choice.{pick}
-use Rattle.row_path.specs.Option.{or_before}
 use Rattle.row_path.specs.Orders.{next_order}
 use Rattle.row_path.specs.Card.{length_of, rest_of}
 use Rattle.row_path.specs.declared.loops.Place.{Place}
 use Rattle.row_path.specs.declared.loops.Jump.{Jump}
-use Rattle.row_path.specs.declared.loops.Jump.TheVariants.{Stay, To}
 use Rattle.row_path.specs.declared.machine.Clock.{Clock}
 use Rattle.row_path.specs.declared.machine.Path.{Path}
 use Rattle.row_path.specs.declared.machine.Entered.{Entered}
@@ -15,14 +13,10 @@ use Rattle.row_path.specs.declared.machine.Entered.{Entered}
 unfoldable pub ticked : Clock → Clock
 ticked c = record { speed = c.speed; tempo = c.tempo; rate = c.rate; start = c.start + length_of c; remainder = rest_of c }
 
-abbrev pub jumps : Jump → Bool
-jumps Stay = false
-jumps (To order row) = true
-
 -- take the jump, or row + 1 (past 63: row 0, next order)
-abbrev pub place_after : Jump → Place → Place
-place_after (To order row) at = record { order = or_before order (next_order at.order); row = row }
-place_after Stay at =
+abbrev pub place_after : Option Jump → Place → Place
+place_after (Some to) at = record { order = unwrap_or to.order (next_order at.order); row = to.row }
+place_after None at =
     pick (ltb at.row 63) (record { order = at.order; row = at.row + 1 }) (record { order = next_order at.order; row = 0 })
 
 -- hold > 0 and there is no jump: hold − 1, held yes
@@ -51,6 +45,6 @@ gone_on n p at =
 
 unfoldable pub left : List ℕ → Entered → Path
 left orders e =
-    pick (ltb 0 e.path.hold.left && not (jumps e.jump))
+    pick (ltb 0 e.path.hold.left && not (is_some e.jump))
     (held_on e.path)
     (gone_on (length orders) e.path (place_after e.jump e.path.place))

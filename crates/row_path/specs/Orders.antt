@@ -1,8 +1,6 @@
 -- Orders (01, 'Section, first part'). Assumes nothing.
-use Rattle.std.specs.Prelude.{ℕ, suc, ◌+◌, min, List, [], ◌∷◌, eqb, ltb, get_or, drop, length}
+use Rattle.std.specs.Prelude.{ℕ, suc, ◌+◌, min, List, [], ◌∷◌, eqb, ltb, get_or, drop, length, None, Option, Some}
 use Rattle.laws.specs.Choice.{pick}
-use Rattle.row_path.specs.declared.option.ByteOption.{ByteOption}
-use Rattle.row_path.specs.declared.option.ByteOption.TheVariants.{None, Some}
 
 -- the next order, counting no further than 255 (Leave)
 abbrev pub next_order : ℕ → ℕ
@@ -17,7 +15,7 @@ unfoldable pub skipped : List ℕ → ℕ → ℕ
 skipped orders at = skip_from (drop at orders) at
 
 -- the pattern at an order: none past the list's end, at 0xFF, or where the pattern isn't there
-unfoldable pub pattern_at : List ℕ → ℕ → ℕ → ByteOption
+unfoldable pub pattern_at : List ℕ → ℕ → ℕ → Option ℕ
 pattern_at orders patterns at =
     pick (ltb at (length orders))
     (pick (eqb (get_or orders at 0) 0xFF) None (pick (ltb (get_or orders at 0) patterns) (Some (get_or orders at 0)) None))

@@ -1,12 +1,10 @@
 -- Enter, step 4 (01, 'Section, first part'): channels 0 to 31 in turn, the last channel wins in each. Assumes nothing.
-use Rattle.std.specs.Prelude.{ℕ, zero, suc, ◌+◌, ◌*◌, ◌/◌, ◌%◌, List, eqb, ltb, get_or, set}
+use Rattle.std.specs.Prelude.{ℕ, zero, suc, ◌+◌, ◌*◌, ◌/◌, ◌%◌, List, eqb, ltb, get_or, set, None, Option, Some}
 use Rattle.laws.specs.Choice.{pick}
 use Rattle.tune.specs.Cells.{cell_of}
-use Rattle.row_path.specs.declared.option.ByteOption.{ByteOption}
-use Rattle.row_path.specs.declared.option.ByteOption.TheVariants.{None, Some}
 use Rattle.row_path.specs.declared.scan.Scan.{Scan}
 
-abbrev scan : ByteOption → ByteOption → ByteOption → ByteOption → ByteOption → ByteOption → List ℕ → Scan
+abbrev scan : Option ℕ → Option ℕ → Option ℕ → Option ℕ → Option ℕ → Option ℕ → List ℕ → Scan
 scan s t o r l d i =
     record { row_speed = s; row_tempo = t; jump_order = o; jump_row = r; row_loop_request = l; row_pattern_delay = d; s_info = i }
 

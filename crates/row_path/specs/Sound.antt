@@ -1,9 +1,6 @@
 -- What rules 9 and 11 settle of a path, and every enter and leave keeps (01, 'Why a call says no'). Assumes nothing.
-use Rattle.std.specs.Prelude.{ℕ, ◌*◌, ◌≤◌, ◌<◌}
-use Rattle.row_path.specs.declared.option.ByteOption.{ByteOption}
-use Rattle.row_path.specs.declared.option.ByteOption.TheVariants.{None, Some}
+use Rattle.std.specs.Prelude.{ℕ, ◌*◌, ◌≤◌, ◌<◌, None, Option, Some}
 use Rattle.row_path.specs.declared.loops.Jump.{Jump}
-use Rattle.row_path.specs.declared.loops.Jump.TheVariants.{Stay, To}
 use Rattle.row_path.specs.declared.machine.Path.{Path}
 use Rattle.row_path.specs.declared.machine.Entered.{Entered}
 
@@ -21,14 +18,14 @@ pub record Sound (p : Path) : Type 0 where
   pub remainder : p.clock.remainder < 2 * p.clock.tempo
 
 -- an absent byte, or one of which P holds
-abbrev pub Each : (ℕ → Type 0) → ByteOption → Type 0
+abbrev pub Each : (ℕ → Type 0) → Option ℕ → Type 0
 Each P None = Unit
 Each P (Some x) = P x
 
 -- a jump goes to an order of which P holds, if it names one, and to a row of a pattern
-abbrev pub JumpTo : (ℕ → Type 0) → Jump → Type 0
-JumpTo P Stay = Unit
-JumpTo P (To order row) = Each P order × (row ≤ 63)
+abbrev pub JumpTo : (ℕ → Type 0) → Option Jump → Type 0
+JumpTo P None = Unit
+JumpTo P (Some to) = Each P to.order × (to.row ≤ 63)
 
 pub record SoundEntered (e : Entered) : Type 0 where
   pub path : Sound e.path

@@ -4,6 +4,5 @@
 
 pub mod loops;
 pub mod machine;
-pub mod option;
 pub mod orders;
 pub mod scan;

@@ -1,9 +1,7 @@
 // Pattern loops and jumps.
-ghost use Rattle.std.specs.Prelude.{◌≡◌, ◌-◌};
+ghost use Rattle.std.specs.Prelude.{◌≡◌};
 ghost use Rattle.row_path.specs.Loops.{scoped, jump_of, again, requested, looped};
 ghost use Rattle.row_path.specs.Loops as spec;
-
-use crate::option::{ByteOption, is_at};
 
 #[derive(Clone, Copy)]
 pub struct Place {
@@ -14,121 +12,107 @@ pub struct Place {
 // The order that the loop belongs to, the row it goes back to, and how often it still does.
 #[derive(Clone, Copy)]
 pub struct PatternLoop {
-    pub order: ByteOption,
+    pub order: Option<u8>,
     pub start_row: u8,
-    pub count: ByteOption,
+    pub count: Option<u8>,
 }
 
 // Where a row jumps to: an order, the next one where it is absent, and a row.
 #[derive(Clone, Copy)]
-pub enum Jump {
-    Stay,
-    To(ByteOption, u8),
+pub struct Jump {
+    pub order: Option<u8>,
+    pub row: u8,
 }
 
 #[derive(Clone, Copy)]
 pub struct Looped {
     pub pattern_loop: PatternLoop,
-    pub jump: Jump,
+    pub jump: Option<Jump>,
 }
 
 // The loop at an order: a new one where the order is not the loop's.
+#[tactic(auto, unfolding(crate::specs::Loops::scoped))]
 pub fn scope(l: PatternLoop, order: u8) -> PatternLoop
     ensures { result ≡ scoped l order }
 {
-    let own = l.order;
-    if is_at(own, order) {
+    if l.order == Some(order) {
         return l;
     }
-    let count = ByteOption::None;
     PatternLoop {
-        order: ByteOption::Some(order),
+        order: Some(order),
         start_row: 0,
-        count,
+        count: None,
     }
 }
 
-pub fn jump_of(row: ByteOption, order: ByteOption) -> Jump
+pub fn jump_of(row: Option<u8>, order: Option<u8>) -> Option<Jump>
     ensures { result ≡ jump_of row order }
 {
-    match row {
-        ByteOption::Some(r) => Jump::To(order, r),
-        ByteOption::None => match order {
-            ByteOption::Some(o) => Jump::To(ByteOption::Some(o), 0),
-            ByteOption::None => Jump::Stay,
-        },
+    match (row, order) {
+        (Some(row), _) => Some(Jump { order, row }),
+        (None, Some(_)) => Some(Jump { order, row: 0 }),
+        (None, None) => None,
     }
 }
 
-pub fn one_less(n: u8) -> u8
-    ensures { result ≡ n - 1 }
-{
-    if n == 0 { 0 } else { n - 1 }
-}
-
-fn turns(p: u8, count: ByteOption) -> u8
+fn turns(p: u8, count: Option<u8>) -> u8
     ensures { result ≡ spec.turns p count }
 {
     match count {
-        ByteOption::None => p,
-        ByteOption::Some(n) => one_less(n),
+        None => p,
+        Some(n) => n.saturating_sub(1),
     }
 }
 
-fn go_again(m: u8, at: Place, l: PatternLoop, j: Jump) -> Looped
+#[tactic(auto, unfolding(crate::specs::Loops::again))]
+fn go_again(m: u8, at: Place, l: PatternLoop, j: Option<Jump>) -> Looped
     ensures { result ≡ again m at l j }
 {
-    let order = l.order;
     if m == 0 {
-        let done = PatternLoop {
-            order,
-            start_row: l.start_row,
-            count: ByteOption::None,
-        };
         return Looped {
-            pattern_loop: done,
+            pattern_loop: PatternLoop { count: None, ..l },
             jump: j,
         };
     }
-    let more = PatternLoop {
-        order,
-        start_row: l.start_row,
-        count: ByteOption::Some(m),
+    let back = Jump {
+        order: Some(at.order),
+        row: l.start_row,
     };
     Looped {
-        pattern_loop: more,
-        jump: Jump::To(ByteOption::Some(at.order), l.start_row),
+        pattern_loop: PatternLoop {
+            count: Some(m),
+            ..l
+        },
+        jump: Some(back),
     }
 }
 
-fn request(p: u8, at: Place, l: PatternLoop, j: Jump) -> Looped
+#[tactic(auto, unfolding(crate::specs::Loops::requested))]
+fn request(p: u8, at: Place, l: PatternLoop, j: Option<Jump>) -> Looped
     ensures { result ≡ requested p at l j }
 {
-    let order = l.order;
-    let count = l.count;
     if p == 0 {
-        let here = PatternLoop {
-            order,
-            start_row: at.row,
-            count,
-        };
         return Looped {
-            pattern_loop: here,
+            pattern_loop: PatternLoop {
+                start_row: at.row,
+                ..l
+            },
             jump: j,
         };
     }
-    go_again(turns(p, count), at, l, j)
+    go_again(turns(p, l.count), at, l, j)
 }
 
 // The loop and the jump behind a row's loop request.
-pub fn resolve(asked: ByteOption, at: Place, l: PatternLoop, j: Jump) -> Looped
+#[tactic(auto, unfolding(crate::specs::Loops::looped))]
+pub fn resolve(asked: Option<u8>, at: Place, l: PatternLoop, j: Option<Jump>) -> Looped
     ensures { result ≡ looped asked at l j }
 {
     match asked {
-        ByteOption::None => Looped {
+        None => Looped {
             pattern_loop: l,
             jump: j,
         },
-        ByteOption::Some(p) => request(p, at, l, j),
+        Some(p) => request(p, at, l, j),
     }
 }

@@ -2,44 +2,38 @@
 ghost use Rattle.std.specs.Prelude.{◌≡◌, ◌≤◌, length};
 ghost use Rattle.row_path.specs.Orders.{next_order, skipped, pattern_at};
 
-use crate::option::ByteOption;
-use tune::numbers::wide;
+// The two bytes of the list that name no pattern.
+const SKIPPED: u8 = 0xFE;
+
+const END: u8 = 0xFF;
 
 pub fn next_order(order: u8) -> u8
     ensures { result ≡ next_order order }
 {
-    if order < 255 { order + 1 } else { 255 }
+    order.saturating_add(1)
 }
 
 // The first order from `order` on that is no 0xFE, or the list's end.
+#[tactic(auto, using(crate::proofs::Steps::skip_more, crate::proofs::Steps::skip_stop, crate::proofs::Steps::skip_end))]
 pub fn skip(orders: &[u8], order: u8) -> u8
     requires { length orders.now ≤ 255 }
     ensures { result ≡ skipped orders.now order }
 {
-    let mut at = wide(order);
-    while at < orders.len() {
-        if orders[at] != 254 {
+    for at in usize::from(order)..orders.len() {
+        if orders[at] != SKIPPED {
             return at as u8;
         }
-        at += 1;
     }
-    at as u8
+    order.max(orders.len() as u8)
 }
 
 // The pattern of an order, of so many patterns.
-pub fn pattern_at(orders: &[u8], patterns: usize, order: u8) -> ByteOption
+#[tactic(auto, unfolding(crate::specs::Orders::pattern_at))]
+pub fn pattern_at(orders: &[u8], patterns: usize, order: u8) -> Option<u8>
     ensures { result ≡ pattern_at orders.now patterns order }
 {
-    let at = wide(order);
-    if at < orders.len() {
-        let v = orders[at];
-        if v == 255 {
-            return ByteOption::None;
-        }
-        if wide(v) < patterns {
-            return ByteOption::Some(v);
-        }
-        return ByteOption::None;
+    match orders.get(usize::from(order)) {
+        Some(&v) if v != END && usize::from(v) < patterns => Some(v),
+        _ => None,
     }
-    ByteOption::None
 }

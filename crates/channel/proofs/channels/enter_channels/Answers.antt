@@ -15,7 +15,6 @@ pub loop-i-init : goal.loop-i-init
 loop-i-init c = (
   search rules,
   search rules,
-  search rules,
   mixed_start _ _,
   search rules,
   sym (volume_none _ _),
@@ -28,12 +27,11 @@ loop-i-preserved c =
     let e = c.enter_channel-e.ensures in
     let k = c.cell_of-cell.ensures in
     let h : l.i < length l.entered = omega arith in (
-      omega arith,
-      simp length-set l.invariant.1,
+      simp length-set l.invariant.0,
       c.mark-strikes.ensures.1,
-      rw (e, k) (mixed_step _ _ _ _ h ∙ l.invariant.3),
-      rw (c.mark-strikes.ensures.0, e, k) (mask_more _ _ _ _ _ _ _ h l.invariant.4),
-      rw (c.hear_volume-waiting.ensures, k, l.invariant.5) (sym (volume_more _ _ _)),
+      rw (e, k) (mixed_step _ _ _ _ h ∙ l.invariant.2),
+      rw (c.mark-strikes.ensures.0, e, k) (mask_more _ _ _ _ _ _ _ h l.invariant.3),
+      rw (c.hear_volume-waiting.ensures, k, l.invariant.4) (sym (volume_more _ _ _)),
     )
 
 pub returns : goal.returns
@@ -42,4 +40,4 @@ returns c =
     let l = c.loop-i in
     let n : l.i ≡ length l.entered = omega arith in
     let m : l.i ≡ 32 = omega arith in
-    rw (← sym (mixed_end _ _ _ n) ∙ l.invariant.3, ← mask_done _ _ _ _ _ n l.invariant.4, l.invariant.5, m)
+    rw (← sym (mixed_end _ _ _ n) ∙ l.invariant.2, ← mask_done _ _ _ _ _ n l.invariant.3, l.invariant.4, m)
