@@ -1,52 +1,52 @@
 -- The two calls' answers, from what the functions below them give. Assumes nothing.
 use Prim.Native.Nat.{ℕ, ◌*◌, ◌≤◌}
 use mathlib.Core.Path.{◌≡◌, refl, sym, ap, ◌∙◌, subst}
-use mathlib.Core.Bool.{Bool, true, false, not}
+use mathlib.Core.Bool.{Bool, true, not}
 use borrow.Author.Tests.{ne_eqb, not-false}
 use lib.ListN.{length}
 use Rattle.laws.specs.Refusals.{refuse}
-use Rattle.laws.proofs.Rules.{first, next, sound, kept}
+use Rattle.laws.proofs.Rules.{next, sound, kept}
 use Rattle.tune.specs.Sizes.{pattern_count}
 use Rattle.tune.specs.declared.opening.Opening.{Opening}
 use Rattle.tune.proofs.Sized.{sized}
 use Rattle.section.specs.Tables.{Tables, tables_rule}
-use Rattle.section.specs.Open.{fresh_state, open_rule, opened_by, open_of}
-use Rattle.section.specs.declared.state.Opened.{Opened}
-use Rattle.closed.specs.declared.answer.ClosedAnswer.TheVariants.{Yes, No, Refused}
-use Rattle.closed.specs.Answers.{closed_tables, closed_says, is_closed_says, rule14, open_closed_rule, open_closed_of}
+use Rattle.std.specs.Prelude.{Result, Ok, Err}
+use Rattle.tune.specs.Rules.{number_of, verdict}
+use Rattle.tune.specs.declared.rules.Refusal.{Refusal}
+use Rattle.tune.proofs.Checks.{number_more, refused, passed}
+use Rattle.section.specs.declared.state.State.{State}
+use Rattle.section.specs.Open.{Opened, fresh_state, open_rule, opened_by, open_of, opened}
+use Rattle.closed.specs.Answers.{closed_tables, rule14, open_closed_rule, open_closed_of}
 use Rattle.closed.specs.Ends.{most_rows, EndsWithin}
 use Rattle.closed.proofs.Ends.{closed_ends}
 
-module _ (t : Tables) (r : ℕ) where
-  pub says_refused : r ≡ tables_rule t → (r ≡ 0 → ⊥) → closed_says (Refused r) ≡ is_closed_says t
-  says_refused e h = rw (sym e, ne_eqb r 0 h)
-
-  pub says_yes : r ≡ tables_rule t → r ≡ 0 → closed_tables t ≡ true → closed_says Yes ≡ is_closed_says t
-  says_yes e z c = rw (sym e ∙ z, c)
-
-  pub says_no : r ≡ tables_rule t → r ≡ 0 → closed_tables t ≡ false → closed_says No ≡ is_closed_says t
-  says_no e z c = rw (sym e ∙ z, c)
-
-  -- what the pass over the cells asks
-  pub rule_sized : r ≡ tables_rule t → r ≡ 0 → (length t.cells ≡ pattern_count t.cells * 10240) × (pattern_count t.cells ≤ 100)
-  rule_sized e z = let s = sized t.orders t.cells t.samples (sym e ∙ z) in (s.patterns_whole, s.patterns_most)
+-- what the pass over the cells asks
+pub rule_sized : (t : Tables) → tables_rule t ≡ 0 → (length t.cells ≡ pattern_count t.cells * 10240) × (pattern_count t.cells ≤ 100)
+rule_sized t e = let s = sized t.orders t.cells t.samples e in (s.patterns_whole, s.patterns_most)
 
 module _ (t : Tables) (o : Opening) where
   tables_kept : open_rule t o ≡ 0 → tables_rule t ≡ 0
   unfolding open_rule
   tables_kept e = (sound (tables_rule t) _ e).0
 
-  pub open_sized : (r : ℕ) → r ≡ open_rule t o → r ≡ 0 → (length t.cells ≡ pattern_count t.cells * 10240) × (pattern_count t.cells ≤ 100)
-  open_sized r e z = rule_sized t (tables_rule t) refl (tables_kept (sym e ∙ z))
+  pub open_sized : open_rule t o ≡ 0 → (length t.cells ≡ pattern_count t.cells * 10240) × (pattern_count t.cells ≤ 100)
+  open_sized e = rule_sized t (tables_kept e)
 
-  pub opens_refused : (r : ℕ) → r ≡ open_rule t o → (r ≡ 0 → ⊥) → opened_by r o ≡ open_closed_of t o
-  unfolding open_closed_of open_closed_rule
-  opens_refused r e h = ap (λ (n : ℕ). opened_by n o) (sym (first (open_rule t o) (rule14 t) (λ z. h (e ∙ z)) ∙ sym e))
+  opened_err : (r : Refusal) → opened (Err r) ≡ opened_by (number_of r) o
+  opened_err r = rw (ne_eqb (number_of r) 0 (number_more r))
 
-  pub opens_by_14 : (r : ℕ) (b : Bool) (q : ℕ) → r ≡ open_rule t o → r ≡ 0 → b ≡ closed_tables t → q ≡ refuse 14 (not b) → opened_by q o ≡ open_closed_of t o
+  -- the check of Open's rules refuses
+  pub opens_refused : {A : Type 0} (x : Result A Refusal) (r : Refusal) (y : Result State Refusal) → x ≡ Err r → y ≡ Err r → verdict x ≡ open_rule t o
+      → opened y ≡ open_closed_of t o
   unfolding open_closed_of open_closed_rule
-  opens_by_14 r b q e z c f =
-      ap (λ (n : ℕ). opened_by n o) (f ∙ ap (λ (x : Bool). refuse 14 (not x)) c ∙ sym (next (open_rule t o) (rule14 t) (sym e ∙ z)))
+  opens_refused x r y e g v = ap opened g ∙ opened_err r ∙ ap (λ (n : ℕ). opened_by n o) (sym (refused x r (open_rule t o) (rule14 t) e v))
+
+  -- neither it nor the check of rule 14 does
+  pub rule_kept : {A B : Type 0} (x : Result A Refusal) (a : A) (y : Result B Refusal) (b : B) (q : Bool) → x ≡ Ok a → verdict x ≡ open_rule t o
+      → y ≡ Ok b → verdict y ≡ refuse 14 (not q) → q ≡ closed_tables t → open_closed_rule t o ≡ 0
+  unfolding open_closed_rule
+  rule_kept {B = B} x a y b q e v f w c =
+      passed x a (open_rule t o) (rule14 t) e v ∙ ap (λ (z : Bool). refuse 14 (not z)) (sym c) ∙ sym w ∙ ap (λ (z : Result B Refusal). verdict z) f
 
   rule_is : (open_closed_of t o).refusal ≡ open_closed_rule t o
   unfolding open_closed_of

@@ -1,5 +1,6 @@
 -- The rows that a closed tune's path has, at most: in each order what the measure says, and the figure for each order behind it.
 -- Assumes nothing.
+use Rattle.std.specs.Prelude.{None, Option, Some}
 use Prim.Native.Nat.{ℕ, zero, suc, ◌+◌, ◌*◌, ◌-◌, ◌≤◌, ◌<◌}
 use mathlib.Core.Path.{◌≡◌, refl, sym, ap, ◌∙◌}
 use mathlib.Core.Bool.{Bool, true, false}
@@ -20,8 +21,6 @@ use Rattle.row_path.specs.Enter.{ended_at, arrived, visited, entered_at, entered
 use Rattle.row_path.specs.Leave.{left}
 use Rattle.row_path.specs.Sound.{Each}
 use Rattle.row_path.specs.Walk.{Turn, onward, more, path_walk, rows_left}
-use Rattle.row_path.specs.declared.option.ByteOption.{ByteOption}
-use Rattle.row_path.specs.declared.option.ByteOption.TheVariants.{None, Some}
 use Rattle.row_path.specs.declared.loops.PatternLoop.{PatternLoop}
 use Rattle.row_path.specs.declared.machine.Path.{Path}
 use Rattle.row_path.specs.declared.machine.Entered.{Entered}
@@ -52,7 +51,7 @@ loop_found cells v (suc n) r h e =
     earlier d true q = absurd (not_both (sym e ∙ ap (loops cells v) (eqb-true r n q) ∙ d))
     earlier d false q = omega (arith, eqb-false r n q)
 
-at_is : (o : ByteOption) (n : ℕ) → is_at o n ≡ true → o ≡ Some n
+at_is : (o : Option ℕ) (n : ℕ) → is_at o n ≡ true → o ≡ Some n
 at_is None n e = cc
 at_is (Some m) n e = ap Some (eqb-true m n e)
 
@@ -79,7 +78,7 @@ arrived_order p at = (refl, scoped_order p.pattern_loop at)
 
 scope_same : (g : PatternLoop) (at : ℕ) → g.order ≡ Some at → scoped g at ≡ g
 unfolding scoped
-scope_same g at e = choice (λ (x : PatternLoop). x ≡ g) (is_at g.order at) (λ _. refl) (λ d. absurd (not_both (sym (ap (λ (o : ByteOption). is_at o at) e ∙ eq-eqb at at refl) ∙ d)))
+scope_same g at e = choice (λ (x : PatternLoop). x ≡ g) (is_at g.order at) (λ _. refl) (λ d. absurd (not_both (sym (ap (λ (o : Option ℕ). is_at o at) e ∙ eq-eqb at at refl) ∙ d)))
 
 -- a path in its scope keeps its measure
 in_scope : (l : ℕ) (p : Path) (at : ℕ) → p.pattern_loop.order ≡ Some at → measure l (arrived p at) ≡ measure l p
@@ -166,7 +165,7 @@ module _ (os cells : List ℕ) (few : length os ≤ 255) (hundred : pattern_coun
           omega (arith, skipped_least os r.place.order, fresh_most u r (skipped os r.place.order) lr f)
       by r lr l f m s false d = omega (arith, rows_none n r (ltb-false (skipped os r.place.order) (length os) d))
 
-  entered_most : (n : ℕ) (p : Path) (at : ℕ) (m : ByteOption) → Live p → pattern_at os (pattern_count cells) at ≡ m
+  entered_most : (n : ℕ) (p : Path) (at : ℕ) (m : Option ℕ) → Live p → pattern_at os (pattern_count cells) at ≡ m
       → ((r : Path) → Live r → skipped os r.place.order < length os → rows_left os cells n r ≤ budget (skipped os r.place.order) r)
       → (entered_at cells p at m).path.ended ≡ false
       → rows_left os cells n (left os (entered_at cells p at m)) + 1 ≤ budget at p

@@ -12,7 +12,7 @@ use Rattle.row_path.specs.Walk.{Walk, path_walk, rows_left}
 use Rattle.row_path.specs.declared.machine.Path.{Path}
 use Rattle.row_path.proofs.Walks as path
 use Rattle.section.specs.declared.state.State.{State}
-use Rattle.section.specs.declared.state.Sectioned.{Sectioned}
+use Rattle.section.specs.Section.{Sectioned}
 use Rattle.section.specs.Tables.{Tables}
 use Rattle.section.specs.Walk.{Walked, state_with, walk}
 use Rattle.section.specs.Section.{section_rule, gave, answer_by, section_of, sectioned}

@@ -1,4 +1,5 @@
 -- What the scan of a row of a closed tune finds. Assumes nothing.
+use Rattle.std.proofs.Common.{unwrap_or}
 use Prim.Native.Nat.{ℕ, zero, suc, ◌/◌, ◌%◌, ◌<◌}
 use mathlib.Core.Path.{◌≡◌, refl}
 use mathlib.Core.Bool.{Bool, true, false, ◌&&◌}
@@ -11,7 +12,6 @@ use Rattle.laws.specs.Choice.{pick}
 use Rattle.laws.proofs.Picks.{choice}
 use Rattle.tune.specs.Cells.{cell_of}
 use Rattle.row_path.specs.Scan.{scan_speed, scan_tempo, scan_order, scan_row, scan_loop, scan_delay, scan_info, special, special_at, break_row, heard, scanned, first_scan}
-use Rattle.row_path.specs.Option.{or_before}
 use Rattle.row_path.specs.Sound.{Each}
 use Rattle.row_path.specs.declared.scan.Scan.{Scan}
 use Rattle.closed.specs.Closed.{last_loop}
@@ -22,7 +22,7 @@ pub record Ahead (at p : ℕ) (a : Scan) : Type 0 where
   pub row : Each (λ x. x < 64) a.jump_row
   pub hold : Each (λ x. x < 16) a.row_pattern_delay
   pub few : Each (λ x. x < 16) a.row_loop_request
-  pub loop : or_before a.row_loop_request 0 ≡ p
+  pub loop : unwrap_or a.row_loop_request 0 ≡ p
 
 module _ (at : ℕ) where
   special_ahead : (p : ℕ) (a : Scan) (x : ℕ) → Ahead at p a → Ahead at (pick (eqb (x / 16) 11) (x % 16) p) (special a x)

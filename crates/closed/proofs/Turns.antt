@@ -1,4 +1,5 @@
 -- The measure of a path within an order, and that every row lowers it or goes to a later order. Assumes nothing.
+use Rattle.std.specs.Prelude.{None, Option, Some, unwrap_or, is_some}
 use Prim.Native.Nat.{ℕ, ◌+◌, ◌*◌, ◌-◌, ◌≤◌, ◌<◌}
 use mathlib.Core.Path.{◌≡◌, refl}
 use mathlib.Core.Bool.{Bool, true, false, not, ◌&&◌}
@@ -10,30 +11,26 @@ use lib.Dec.{eqb, ltb, leb}
 use lib.ListN.{length}
 use Rattle.laws.specs.Choice.{pick}
 use Rattle.laws.proofs.Picks.{choice}
-use Rattle.row_path.specs.Option.{or_before}
 use Rattle.row_path.specs.Orders.{next_order}
 use Rattle.row_path.specs.Loops.{jump_of, turns, again, requested, looped}
 use Rattle.row_path.specs.Enter.{delayed, settled, looped_by, acted}
-use Rattle.row_path.specs.Leave.{jumps, place_after, held_on, gone_on, left}
+use Rattle.row_path.specs.Leave.{place_after, held_on, gone_on, left}
 use Rattle.row_path.specs.Sound.{Each}
-use Rattle.row_path.specs.declared.option.ByteOption.{ByteOption}
-use Rattle.row_path.specs.declared.option.ByteOption.TheVariants.{None, Some}
 use Rattle.row_path.specs.declared.scan.Scan.{Scan}
 use Rattle.row_path.specs.declared.loops.Place.{Place}
 use Rattle.row_path.specs.declared.loops.PatternLoop.{PatternLoop}
 use Rattle.row_path.specs.declared.loops.Jump.{Jump}
-use Rattle.row_path.specs.declared.loops.Jump.TheVariants.{Stay, To}
 use Rattle.row_path.specs.declared.loops.Looped.{Looped}
 use Rattle.row_path.specs.declared.machine.Hold.{Hold}
 use Rattle.row_path.specs.declared.machine.Path.{Path}
 use Rattle.closed.proofs.Scans.{Ahead}
 
 -- a byte that is absent or below n
-abbrev pub Below : ℕ → ByteOption → Type 0
+abbrev pub Below : ℕ → Option ℕ → Type 0
 Below n o = Each (λ x. x < n) o
 
 -- how often the loop on row l still jumps back, at most
-abbrev pub turns_left : ℕ → ByteOption → ℕ → Bool → ℕ
+abbrev pub turns_left : ℕ → Option ℕ → ℕ → Bool → ℕ
 turns_left l (Some k) r held = k - 1
 turns_left l None r true = pick (ltb r l) 15 0
 turns_left l None r false = pick (leb r l) 15 0
@@ -45,7 +42,7 @@ visits_left h false = 16
 
 -- the rows that are left in an order whose pattern loops in row l, at most. A turn of the loop adds 1,009: up to 63 rows of 16
 -- visits, and row l, which is not held where it jumps back
-abbrev pub measure_by : ℕ → ByteOption → ℕ → Hold → ℕ
+abbrev pub measure_by : ℕ → Option ℕ → ℕ → Hold → ℕ
 measure_by l count row hold = turns_left l count row hold.held * 1009 + (63 - row) * 16 + visits_left hold.left hold.held
 
 abbrev pub measure : ℕ → Path → ℕ
@@ -68,21 +65,21 @@ pub record Next (at l : ℕ) (q p : Path) : Type 0 where
   pub live : Live p
   pub falls : ((p.place.order ≡ at) × (p.pattern_loop.order ≡ Some at) × (measure l p < measure l q)) ⊎ ((at < p.place.order) × (p.hold.held ≡ false))
 
-held_turns : (l : ℕ) (k : ByteOption) (r : ℕ) → turns_left l k r true ≤ turns_left l k r false
+held_turns : (l : ℕ) (k : Option ℕ) (r : ℕ) → turns_left l k r true ≤ turns_left l k r false
 held_turns l (Some k) r = omega arith
 held_turns l None r =
     choice (λ (n : ℕ). n ≤ pick (leb r l) 15 0) (ltb r l) (λ e. let h = ltb-true r l e in rw (le-leb r l (omega arith)) (omega arith)) (λ _. omega arith)
 
-next_turns : (l : ℕ) (k : ByteOption) (r : ℕ) → turns_left l k (r + 1) false ≤ turns_left l k r true
+next_turns : (l : ℕ) (k : Option ℕ) (r : ℕ) → turns_left l k (r + 1) false ≤ turns_left l k r true
 next_turns l (Some k) r = omega arith
 next_turns l None r =
     choice (λ (n : ℕ). n ≤ pick (ltb r l) 15 0) (leb (r + 1) l) (λ e. let h = leb-true (r + 1) l e in rw (lt-ltb r l (omega arith)) (omega arith)) (λ _. omega arith)
 
-again_turns : (l p : ℕ) (k : ByteOption) → p ≤ 15 → turns p k ≤ turns_left l k l false
+again_turns : (l p : ℕ) (k : Option ℕ) → p ≤ 15 → turns p k ≤ turns_left l k l false
 again_turns l p (Some k) h = omega arith
 again_turns l p None h = rw (le-leb l l (omega arith)) h
 
-pub turns_most : (l : ℕ) (k : ByteOption) (r : ℕ) (b : Bool) → Below 16 k → turns_left l k r b ≤ 15
+pub turns_most : (l : ℕ) (k : Option ℕ) (r : ℕ) (b : Bool) → Below 16 k → turns_left l k r b ≤ 15
 turns_most l (Some k) r b h = omega arith
 turns_most l None r true h = choice (λ (n : ℕ). n ≤ 15) (ltb r l) (λ _. omega arith) (λ _. omega arith)
 turns_most l None r false h = choice (λ (n : ℕ). n ≤ 15) (leb r l) (λ _. omega arith) (λ _. omega arith)
@@ -94,44 +91,44 @@ done_held l = rw (le-ltb l l (omega arith))
 done_next : (l : ℕ) → turns_left l None (l + 1) false ≡ 0
 done_next l = rw (lt-leb (l + 1) l (omega arith))
 
-below_turns : (p : ℕ) (k : ByteOption) → p < 16 → Below 16 k → turns p k < 16
+below_turns : (p : ℕ) (k : Option ℕ) → p < 16 → Below 16 k → turns p k < 16
 below_turns p None h b = h
 below_turns p (Some k) h b = omega arith
 
 -- leave, by the jump
-abbrev pub left_by : ℕ → Path → Jump → Path
-left_by n p j = pick (ltb 0 p.hold.left && not (jumps j)) (held_on p) (gone_on n p (place_after j p.place))
+abbrev pub left_by : ℕ → Path → Option Jump → Path
+left_by n p j = pick (ltb 0 p.hold.left && not (is_some j)) (held_on p) (gone_on n p (place_after j p.place))
 
-pub left_to : (P : Path → Type 0) (n : ℕ) (p : Path) (o : ByteOption) (r : ℕ) → P (gone_on n p (record { order = or_before o (next_order p.place.order); row = r })) → P (left_by n p (To o r))
+pub left_to : (P : Path → Type 0) (n : ℕ) (p : Path) (o : Option ℕ) (r : ℕ) → P (gone_on n p (record { order = unwrap_or o (next_order p.place.order); row = r })) → P (left_by n p (Some (record { order = o; row = r })))
 left_to P n p o r h = by (ltb 0 p.hold.left)
   where
-    by : (b : Bool) → P (pick (b && false) (held_on p) (gone_on n p (record { order = or_before o (next_order p.place.order); row = r })))
+    by : (b : Bool) → P (pick (b && false) (held_on p) (gone_on n p (record { order = unwrap_or o (next_order p.place.order); row = r })))
     by true = h
     by false = h
 
 pub left_no : (P : Path → Type 0) (n : ℕ) (p : Path)
     → (0 < p.hold.left → P (held_on p))
-    → (p.hold.left ≡ 0 → P (gone_on n p (place_after Stay p.place))) → P (left_by n p Stay)
+    → (p.hold.left ≡ 0 → P (gone_on n p (place_after None p.place))) → P (left_by n p None)
 left_no P n p f g = by (ltb 0 p.hold.left) refl
   where
-    by : (b : Bool) → ltb 0 p.hold.left ≡ b → P (pick (b && true) (held_on p) (gone_on n p (place_after Stay p.place)))
+    by : (b : Bool) → ltb 0 p.hold.left ≡ b → P (pick (b && true) (held_on p) (gone_on n p (place_after None p.place)))
     by true e = f (ltb-true 0 p.hold.left e)
     by false e = g (let z = ltb-false 0 p.hold.left e in omega arith)
 
-jump_cases : (P : Jump → Type 0) (r b : ByteOption) (at : ℕ) → at < 255 → Each (λ x. at < x) b → Below 64 r → P Stay
-    → ((o : ByteOption) (x : ℕ) → at < or_before o (next_order at) → x ≤ 63 → P (To o x)) → P (jump_of r b)
+jump_cases : (P : Option Jump → Type 0) (r b : Option ℕ) (at : ℕ) → at < 255 → Each (λ x. at < x) b → Below 64 r → P None
+    → ((o : Option ℕ) (x : ℕ) → at < unwrap_or o (next_order at) → x ≤ 63 → P (Some (record { order = o; row = x }))) → P (jump_of r b)
 jump_cases P None None at h hb hr f g = f
 jump_cases P (Some r) None at h hb hr f g = g None r (omega arith) (omega arith)
 jump_cases P None (Some b) at h hb hr f g = g (Some b) 0 hb (omega arith)
 jump_cases P (Some r) (Some b) at h hb hr f g = g (Some b) r hb (omega arith)
 
-abbrev loop_by : ByteOption → ℕ → ByteOption → Jump → Looped
+abbrev loop_by : Option ℕ → ℕ → Option ℕ → Option Jump → Looped
 loop_by o s k j = record { pattern_loop = record { order = o; start_row = s; count = k }; jump = j }
 
-loop_cases : (P : Looped → Type 0) (q : ByteOption) (at : Place) (l : PatternLoop) (j : Jump) → at.row ≤ 63 → l.start_row ≤ 63
+loop_cases : (P : Looped → Type 0) (q : Option ℕ) (at : Place) (l : PatternLoop) (j : Option Jump) → at.row ≤ 63 → l.start_row ≤ 63
     → ((x : ℕ) → x ≤ 63 → P (loop_by l.order x l.count j))
     → ((p : ℕ) → q ≡ Some p → 0 < p → turns p l.count ≡ 0 → P (loop_by l.order l.start_row None j))
-    → ((p : ℕ) → q ≡ Some p → 0 < p → 0 < turns p l.count → P (loop_by l.order l.start_row (Some (turns p l.count)) (To (Some at.order) l.start_row)))
+    → ((p : ℕ) → q ≡ Some p → 0 < p → 0 < turns p l.count → P (loop_by l.order l.start_row (Some (turns p l.count)) (Some (record { order = Some at.order; row = l.start_row }))))
     → P (looped q at l j)
 unfolding looped requested again
 loop_cases P None at l j hr hs f g h = f l.start_row hs
@@ -146,7 +143,7 @@ module _ (n at l : ℕ) (q : Path) (order : q.place.order ≡ at) (scope : q.pat
       → (p.hold.left + 1 ≤ visits_left q.hold.left q.hold.held) → p.hold.left ≤ 15
       → turns_left l p.pattern_loop.count p.place.row true ≤ turns_left l q.pattern_loop.count q.place.row q.hold.held
       → turns_left l p.pattern_loop.count (p.place.row + 1) false ≤ turns_left l q.pattern_loop.count q.place.row q.hold.held
-      → Next at l q (left_by n p Stay)
+      → Next at l q (left_by n p None)
   unfolding held_on gone_on
   stays p po ps pr pl pc ph pm t u =
       left_no (Next at l q) n p
@@ -161,19 +158,19 @@ module _ (n at l : ℕ) (q : Path) (order : q.place.order ≡ at) (scope : q.pat
       })
       (λ d. record { live = record { row = omega arith; start = pl; count = pc; hold = refl }; falls = inr (omega arith, refl) }))
 
-  onward : (p : Path) (o : ByteOption) (r : ℕ) → at < or_before o (next_order p.place.order) → r ≤ 63 → p.pattern_loop.start_row ≤ 63 → Below 16 p.pattern_loop.count
-      → Next at l q (left_by n p (To o r))
+  onward : (p : Path) (o : Option ℕ) (r : ℕ) → at < unwrap_or o (next_order p.place.order) → r ≤ 63 → p.pattern_loop.start_row ≤ 63 → Below 16 p.pattern_loop.count
+      → Next at l q (left_by n p (Some (record { order = o; row = r })))
   unfolding gone_on
   onward p o r ho hr hs hc =
       left_to (Next at l q) n p o r (record { live = record { row = hr; start = hs; count = hc; hold = refl }; falls = inr (ho, refl) })
 
-hold_small : (r : ByteOption) (n : ℕ) → Below 16 r → n ≡ 0 → or_before r n ≤ 15
+hold_small : (r : Option ℕ) (n : ℕ) → Below 16 r → n ≡ 0 → unwrap_or r n ≤ 15
 hold_small None n h e = omega arith
 hold_small (Some x) n h e = omega arith
 
 module _ (os : List ℕ) (v l : ℕ) (q : Path) (scope : q.pattern_loop.order ≡ Some q.place.order) (h : Live q) (small : q.place.order < 255) where
   -- a held visit
-  pub held_next : q.hold.held ≡ true → Next q.place.order l q (left os (record { path = q; jump = Stay; pattern = v }))
+  pub held_next : q.hold.held ≡ true → Next q.place.order l q (left os (record { path = q; jump = None; pattern = v }))
   unfolding left
   held_next e =
       let k : q.hold.left ≤ 14 = rw e at h.hold in
@@ -188,7 +185,7 @@ module _ (os : List ℕ) (v l : ℕ) (q : Path) (scope : q.pattern_loop.order �
   acted_next n a ah one e =
       let z : q.hold.left ≡ 0 = rw e at h.hold in
       let w : visits_left q.hold.left q.hold.held ≡ 16 = rw e in
-      let m : or_before a.row_pattern_delay q.hold.left ≤ 15 = hold_small a.row_pattern_delay q.hold.left ah.hold z in
+      let m : unwrap_or a.row_pattern_delay q.hold.left ≤ 15 = hold_small a.row_pattern_delay q.hold.left ah.hold z in
       let t : turns_left l q.pattern_loop.count q.place.row q.hold.held ≡ turns_left l q.pattern_loop.count q.place.row false = rw e in
       let j = jump_of a.jump_row a.jump_order in
       let lo = q.pattern_loop.order in
@@ -197,25 +194,25 @@ module _ (os : List ℕ) (v l : ℕ) (q : Path) (scope : q.pattern_loop.order �
       loop_cases (λ (g : Looped). Next q.place.order l q (left_by (length os) (settled q a g) g.jump))
       a.row_loop_request q.place q.pattern_loop j h.row h.start
       (λ x hx.
-      jump_cases (λ (y : Jump). Next q.place.order l q (left_by (length os) (settled q a (loop_by lo x lc y)) y))
+      jump_cases (λ (y : Option Jump). Next q.place.order l q (left_by (length os) (settled q a (loop_by lo x lc y)) y))
       a.jump_row a.jump_order q.place.order small ah.order ah.row
-      (stays (length os) q.place.order l q refl scope h small (settled q a (loop_by lo x lc Stay)) refl scope refl hx h.count (omega arith) m
+      (stays (length os) q.place.order l q refl scope h small (settled q a (loop_by lo x lc None)) refl scope refl hx h.count (omega arith) m
       (omega (arith, held_turns l lc q.place.row))
       (omega (arith, held_turns l lc q.place.row, next_turns l lc q.place.row)))
-      (λ o r ho hr. onward (length os) q.place.order l q refl scope h small (settled q a (loop_by lo x lc (To o r))) o r ho hr hx h.count))
+      (λ o r ho hr. onward (length os) q.place.order l q refl scope h small (settled q a (loop_by lo x lc (Some (record { order = o; row = r })))) o r ho hr hx h.count))
       (λ p f hp d.
       let y : q.place.row ≡ l = here p f hp in
-      jump_cases (λ (y : Jump). Next q.place.order l q (left_by (length os) (settled q a (loop_by lo ls None y)) y))
+      jump_cases (λ (y : Option Jump). Next q.place.order l q (left_by (length os) (settled q a (loop_by lo ls None y)) y))
       a.jump_row a.jump_order q.place.order small ah.order ah.row
-      (stays (length os) q.place.order l q refl scope h small (settled q a (loop_by lo ls None Stay)) refl scope refl h.start tt (omega arith) m
+      (stays (length os) q.place.order l q refl scope h small (settled q a (loop_by lo ls None None)) refl scope refl h.start tt (omega arith) m
       (rw (y, done_held) (omega arith))
       (rw (y, done_next) (omega arith)))
-      (λ o r ho hr. onward (length os) q.place.order l q refl scope h small (settled q a (loop_by lo ls None (To o r))) o r ho hr h.start tt))
+      (λ o r ho hr. onward (length os) q.place.order l q refl scope h small (settled q a (loop_by lo ls None (Some (record { order = o; row = r })))) o r ho hr h.start tt))
       (λ p f hp d.
       let y : q.place.row ≡ l = here p f hp in
       let s : p < 16 = rw f at ah.few in
       let g : turns p lc ≤ turns_left l lc q.place.row q.hold.held = rw (e, y) (again_turns l p lc (omega arith)) in
-      left_to (Next q.place.order l q) (length os) (settled q a (loop_by lo ls (Some (turns p lc)) (To (Some q.place.order) ls))) (Some q.place.order) ls
+      left_to (Next q.place.order l q) (length os) (settled q a (loop_by lo ls (Some (turns p lc)) (Some (record { order = Some q.place.order; row = ls })))) (Some q.place.order) ls
       (record {
         live = record { row = h.start; start = h.start; count = below_turns p lc s h.count; hold = refl };
         falls = inl (refl, scope, omega (arith, h.row, h.start));

@@ -1,24 +1,14 @@
 -- What the two calls on closed tunes answer (02, 2026-03). Assumes nothing.
-use Rattle.std.specs.Prelude.{ℕ, Bool, true, false, not}
-use Rattle.std.proofs.Math.Option.{none, some}
+use Rattle.std.specs.Prelude.{ℕ, Bool, not}
 use Rattle.laws.specs.Refusals.{refuse, or_else, Said, said}
 use Rattle.tune.specs.declared.opening.Opening.{Opening}
 use Rattle.section.specs.Tables.{Tables, tables_rule}
-use Rattle.section.specs.Open.{open_rule, opened_by}
-use Rattle.section.specs.declared.state.Opened.{Opened}
-use Rattle.closed.specs.declared.answer.ClosedAnswer.{ClosedAnswer}
-use Rattle.closed.specs.declared.answer.ClosedAnswer.TheVariants.{Yes, No, Refused}
+use Rattle.section.specs.Open.{Opened, open_rule, opened_by}
 use Rattle.closed.specs.Closed.{closed}
 
 -- a tune's tables are closed
 abbrev pub closed_tables : Tables → Bool
 closed_tables t = closed t.orders t.cells
-
--- the number in the list of refusals and the value of each case
-abbrev pub closed_says : ClosedAnswer → Said Bool
-closed_says Yes = record { number = 0; values = some true }
-closed_says No = record { number = 0; values = some false }
-closed_says (Refused n) = record { number = n; values = none }
 
 -- "yes exactly for closed tunes among accepted tables; other tables it refuses as 9"
 abbrev pub is_closed_says : Tables → Said Bool

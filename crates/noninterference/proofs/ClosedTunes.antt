@@ -14,7 +14,7 @@ use Rattle.section.specs.Tables.{Tune, tables_rule}
 use Rattle.section.specs.Open.{fresh_state, open_rule, opened_by}
 use Rattle.section.specs.Typed.{ByteTables, ShapedOpening}
 use Rattle.section.specs.Made.{Made, Promised}
-use Rattle.section.specs.declared.state.Opened.{Opened}
+use Rattle.section.specs.Open.{Opened}
 use Rattle.closed.specs.Answers.{closed_tables, rule14, open_closed_rule, open_closed_of}
 use Rattle.closed.proofs.Alike.{closed_alike}
 use Rattle.closed.proofs.Answered.{opens_closed}

@@ -9,7 +9,7 @@ use lib.Dec.{T, ltb}
 use lib.ListN.{length, get_or, take, drop, get_or-eq_default}
 use lib.Seq.{take-add, take_at, drop_at, length-take-le}
 use Rattle.laws.proofs.Parts.{cut_length}
-use Rattle.section.specs.declared.state.Opened.{Opened}
+use Rattle.section.specs.Open.{Opened}
 use Rattle.section.specs.Tables.{Tune}
 use Rattle.section.specs.Section.{Answer}
 use Rattle.section.specs.Made.{Made}

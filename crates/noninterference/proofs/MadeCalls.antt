@@ -7,7 +7,7 @@ use lib.Dec.{eqb-suc-zero}
 use lib.ListN.{length, get_or, take, drop}
 use lib.Seq.{take_at, drop_at}
 use Rattle.section.specs.declared.state.State.{State}
-use Rattle.section.specs.declared.state.Sectioned.{Sectioned}
+use Rattle.section.specs.Section.{Sectioned}
 use Rattle.section.specs.Tables.{Tables}
 use Rattle.section.specs.Records.{record_size}
 use Rattle.section.specs.Walk.{walk}

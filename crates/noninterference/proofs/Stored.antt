@@ -9,7 +9,7 @@ use lib.Dec.{T, ltb, leb}
 use lib.ListN.{length, get_or, take, drop, get_or-append}
 use lib.Seq.{get_or-append-add, get_or-take, get_or-drop, length-take-le}
 use Rattle.laws.proofs.Picks.{and_true, pick_equal}
-use Rattle.section.specs.declared.state.Opened.{Opened}
+use Rattle.section.specs.Open.{Opened}
 use Rattle.section.specs.Tables.{Tune}
 use Rattle.section.specs.Section.{Answer, joined}
 use Rattle.section.specs.Made.{Made}

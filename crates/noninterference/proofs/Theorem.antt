@@ -9,7 +9,7 @@ use Rattle.laws.proofs.Rules.{sound}
 use Rattle.tune.specs.Sizes.{pattern_count}
 use Rattle.tune.proofs.Sized.{sized}
 use Rattle.section.specs.declared.state.State.{State}
-use Rattle.section.specs.declared.state.Opened.{Opened}
+use Rattle.section.specs.Open.{Opened}
 use Rattle.section.specs.Tables.{Tune}
 use Rattle.section.specs.Open.{open_rule, open_of}
 use Rattle.section.specs.Section.{Answer}

@@ -1,6 +1,6 @@
 -- Demand 3 over the punch head: two heads that are handed the records of two re-voiced tunes (02, 2026-05). Assumes nothing.
 use Rattle.std.specs.Prelude.{ℕ, ◌^◌, ◌≤◌, ◌≡◌, Bool, List, [], map, get_or}
-use Rattle.section.specs.declared.state.Opened.{Opened}
+use Rattle.section.specs.Open.{Opened}
 use Rattle.section.specs.Tables.{Tune}
 use Rattle.section.specs.Open.{open_rule}
 use Rattle.section.specs.Section.{Answer}

@@ -1,7 +1,7 @@
 -- Demand 3 about calls that were made: what they gave back and what they wrote. Assumes nothing.
 use Rattle.std.specs.Prelude.{ℕ, zero, suc, ◌^◌, ◌≤◌, ◌≡◌, Bool, List, [], ◌∷◌, map, eqb, length, take, drop}
 use Rattle.laws.specs.Choice.{pick}
-use Rattle.section.specs.declared.state.Opened.{Opened}
+use Rattle.section.specs.Open.{Opened}
 use Rattle.section.specs.Tables.{Tune}
 use Rattle.section.specs.Open.{open_of}
 use Rattle.section.specs.Records.{record_size}

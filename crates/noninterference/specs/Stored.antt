@@ -1,6 +1,6 @@
 -- Demand 3 over stored sheets: the records of two re-voiced tunes, put in column order (02, 2026-07). Assumes nothing.
 use Rattle.std.specs.Prelude.{ℕ, ◌-◌, ◌/◌, ◌^◌, ◌≤◌, ◌<◌, ◌≡◌, Bool, ◌&&◌, ◌||◌, List, map, T, ltb, leb, length}
-use Rattle.section.specs.declared.state.Opened.{Opened}
+use Rattle.section.specs.Open.{Opened}
 use Rattle.section.specs.Tables.{Tune}
 use Rattle.section.specs.Open.{open_rule}
 use Rattle.section.specs.Records.{head_size, channel_size, record_size, strikes_at, length_at}

@@ -1,4 +1,5 @@
 -- Entering a row is the Rust's `enter_row`. Assumes nothing.
+use Rattle.std.specs.Prelude.{None, Option, Some, is_some}
 use Prim.Native.Nat.{ℕ, ◌+◌, ◌≤◌, ◌<◌, min}
 use mathlib.Core.Path.{◌≡◌, refl, sym, ap, ◌∙◌}
 use mathlib.Core.Bool.{Bool, true, false, not}
@@ -19,11 +20,8 @@ use Rattle.row_path.specs.Orders.{skipped, pattern_at}
 use Rattle.row_path.specs.Scan.{scanned, first_scan}
 use Rattle.row_path.specs.Loops.{scoped, jump_of, turns, again, requested, looped}
 use Rattle.row_path.specs.Enter.{ended_at, arrived, clock_at, paced, delayed, settled, looped_by, acted, visited, entered_at, entered}
-use Rattle.row_path.specs.declared.option.ByteOption.{ByteOption}
-use Rattle.row_path.specs.declared.option.ByteOption.TheVariants.{None, Some}
 use Rattle.row_path.specs.declared.scan.Scan.{Scan}
 use Rattle.row_path.specs.declared.loops.Jump.{Jump}
-use Rattle.row_path.specs.declared.loops.Jump.TheVariants.{Stay}
 use Rattle.row_path.specs.declared.loops.Place.{Place}
 use Rattle.row_path.specs.declared.loops.PatternLoop.{PatternLoop}
 use Rattle.row_path.specs.declared.loops.Looped.{Looped}
@@ -46,7 +44,7 @@ use Rattle.original.specs.State.{Song, PlayerState}
 use Rattle.original.specs.Fields.{self_channels, self_order_index, self_pending_global_vol, self_loop_count, self_loop_start_row, self_loop_pattern_order, self_strikes}
 use Rattle.original.specs.New.{«Channel::default»}
 use Rattle.original.specs.Player.{Pass, pass, no_locals, scope_loop, conclude, written, play_row, find_next_playable_order, enter_at, enter_row}
-use Rattle.original.specs.Map.{song_of, rust_channel, rust_channels, player_of, state_map, waiting, waiting_in, row_from, is_some, played_map, entered_map}
+use Rattle.original.specs.Map.{song_of, rust_channel, rust_channels, player_of, state_map, waiting, waiting_in, row_from, played_map, entered_map}
 use Rattle.original.specs.Untransposed.{Untransposed}
 use Rattle.original.proofs.Lists.{mask_none, mask_same}
 use Rattle.original.proofs.Scans.{scan_of}
@@ -56,16 +54,16 @@ use Rattle.original.proofs.TablesSame.{found_at, play_at, pattern_same, pattern_
 
 -- the loop's scope, where the skipping ends
 scope_same : (p : Path) (at : ℕ) (cs : List Channel) (g : ℕ)
-    → self_pending_global_vol (scope_loop (self_order_index (player_of p Stay cs g None 0) at)) None ≡ player_of (arrived p at) Stay cs g None 0
+    → self_pending_global_vol (scope_loop (self_order_index (player_of p None cs g None 0) at)) None ≡ player_of (arrived p at) None cs g None 0
 unfolding player_of arrived scoped scope_loop
 scope_same p at cs g = by (is_at p.pattern_loop.order at)
   where
     here : PlayerState
-    here = self_order_index (player_of p Stay cs g None 0) at
+    here = self_order_index (player_of p None cs g None 0) at
 
     there : PatternLoop → PlayerState
     there l =
-        player_of (record { place = record { order = at; row = p.place.row }; pattern_loop = l; hold = p.hold; clock = p.clock; ended = p.ended; s_info = p.s_info }) Stay cs g None 0
+        player_of (record { place = record { order = at; row = p.place.row }; pattern_loop = l; hold = p.hold; clock = p.clock; ended = p.ended; s_info = p.s_info }) None cs g None 0
 
     by : (b : Bool) → self_pending_global_vol (pick (not b) (self_loop_count (self_loop_start_row (self_loop_pattern_order here (Some at)) 0) None) here) None
         ≡ there (pick b p.pattern_loop (record { order = Some at; start_row = 0; count = None }))
@@ -73,12 +71,12 @@ scope_same p at cs g = by (is_at p.pattern_loop.order at)
     by false = refl
 
 -- a loop request leaves the loop's order
-looped_order : (q : ByteOption) (at : Place) (l : PatternLoop) (j : Jump) → (looped q at l j).pattern_loop.order ≡ l.order
+looped_order : (q : Option ℕ) (at : Place) (l : PatternLoop) (j : Option Jump) → (looped q at l j).pattern_loop.order ≡ l.order
 unfolding looped requested again
 looped_order None at l j = refl
 looped_order (Some p) at l j = chain order_in (eqb p 0) (λ _. refl) (λ _. chain order_in (eqb (turns p l.count) 0) (λ _. refl) (λ _. refl))
   where
-    order_in : Looped → ByteOption
+    order_in : Looped → Option ℕ
     order_in x = x.pattern_loop.order
 
 -- held, or not
@@ -109,7 +107,7 @@ module _ (t : Tables) (s : State) (sized : Sized t.orders t.cells t.samples) (by
   cells = cells_of t w v p.place.row
 
   abbrev start : PlayerState
-  start = player_of p Stay cs g None 0
+  start = player_of p None cs g None 0
 
   abbrev first : Pass
   first = record { channels = rust_channels cs p.s_info; a = no_locals None; strikes = 0 }
@@ -183,7 +181,7 @@ module _ (t : Tables) (s : State) (sized : Sized t.orders t.cells t.samples) (by
       found : Scan
       found = scan_of ys after.a
 
-      put : List Channel → ByteOption → ℕ → ByteOption → PlayerState
+      put : List Channel → Option ℕ → ℕ → Option ℕ → PlayerState
       put ds x k order = self_loop_pattern_order (self_strikes (self_pending_global_vol (self_channels (played_by found) ds) x) k) order
 
   abbrev ours : Entered → PlayerState
@@ -232,11 +230,11 @@ module _ (t : Tables) (s : State) (sized : Sized t.orders t.cells t.samples) (by
   abbrev before : PlayerState
   before = state_map s
 
-  abbrev map_by : ByteOption → Entered → PlayerState
+  abbrev map_by : Option ℕ → Entered → PlayerState
   map_by n e =
       pick (is_some n) (played_map s e (row_played t s.switches e (voices_of s)) (waiting_in t e)) (player_of e.path e.jump s.channels s.global_volume None 0)
 
-  by_pattern : (at : ℕ) (n : ByteOption) → pattern_at t.orders (pattern_count t.cells) at ≡ n
+  by_pattern : (at : ℕ) (n : Option ℕ) → pattern_at t.orders (pattern_count t.cells) at ≡ n
       → play_at song n (self_order_index before at) ≡ map_by n (entered_at t.cells q at n)
   unfolding play_at entered_at ended_at player_of
   by_pattern at None e = refl

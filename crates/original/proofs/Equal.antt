@@ -1,7 +1,7 @@
 -- Entering and leaving a row equal the original Rust, on every table and state that Section accepts (demand 2), where every channel's
 -- transposition is 0 (`Untransposed`): the Rust knows none, and what Read gives has none. Assumes nothing.
 use Prim.Native.Nat.{ℕ}
-use mathlib.Core.Path.{◌≡◌, refl, sym, ap, ◌∙◌, subst}
+use mathlib.Core.Path.{◌≡◌, sym, ap, ◌∙◌, subst}
 use mathlib.Core.Bool.{true}
 use mathlib.Core.List.{List}
 use lib.ListN.{length}
@@ -9,12 +9,12 @@ use Rattle.tune.proofs.Sized.{sized}
 use Rattle.row_path.specs.Leave.{left}
 use Rattle.section.specs.Tables.{Tables, tables_rule}
 use Rattle.section.specs.Machines.{record_of, voices_after}
-use Rattle.section.specs.Section.{state_rule, section_rule, gave, section_of, sectioned, output_after}
+use Rattle.section.specs.Section.{state_rule, section_rule, gave, answer_by, section_of, sectioned, output_after}
 use Rattle.section.specs.Walk.{voices_of, state_with, walk}
 use Rattle.section.specs.Typed.{Shaped, ByteTables}
 use Rattle.section.specs.declared.state.State.{State}
-use Rattle.section.specs.declared.state.Sectioned.{Sectioned}
-use Rattle.section.proofs.Answers.{refusal_is, given_answer}
+use Rattle.section.specs.Section.{Sectioned}
+use Rattle.section.proofs.Answers.{refusal_is}
 use Rattle.section.proofs.Ready.{rule_sound, rules_kept}
 use Rattle.original.specs.New.{«Channel::default»}
 use Rattle.original.specs.Player.{enter_row, next_row}
@@ -62,6 +62,10 @@ pub records_equal : (t : Tables) (n : ℕ) (s : State) → tables_rule t ≡ 0 �
 records_equal t n s nine eleven bytes shaped untransposed =
     reads_equal t (sized t.orders t.cells t.samples nine) bytes n s shaped untransposed (rule_sound s eleven shaped)
 
+given_by_rule : (t : Tables) (s : State) (n : ℕ) (before : List ℕ) → section_rule t s n (length before) ≡ 0 → section_of t s n (length before) ≡ gave (walk t n s)
+unfolding section_of answer_by
+given_by_rule t s n before e = ap (λ (k : ℕ). answer_by k s (walk t n s)) e
+
 -- A call of Section that is not refused, on an untransposed state, from what it promises (`answer`, `written`, `typed`) and nothing else
 pub call_equal : (t : Tables) (s : State) (n : ℕ) (before after : List ℕ) (r : Sectioned)
     → r ≡ sectioned (section_of t s n (length before)) → after ≡ output_after before (section_of t s n (length before)) → ByteTables t × Shaped s
@@ -70,7 +74,7 @@ unfolding sectioned gave output_after player_of
 call_equal t s n before after r answer written typed taken untransposed =
     let rule : section_rule t s n (length before) ≡ 0 = sym (refusal_is t s n (length before)) ∙ ap (λ (a : Sectioned). a.refusal) (sym answer) ∙ taken in
     let kept = rules_kept t s n (length before) rule in
-    let given : section_of t s n (length before) ≡ gave (walk t n s) = given_answer t s n before (section_rule t s n (length before)) refl rule in
+    let given : section_of t s n (length before) ≡ gave (walk t n s) = given_by_rule t s n before rule in
     let is : r ≡ sectioned (gave (walk t n s)) = answer ∙ ap sectioned given in
     let turned = sym (walk_equal t n s kept.0 kept.1 typed.0 typed.1 untransposed) in
     let read = sym (records_equal t n s kept.0 kept.1 typed.0 typed.1 untransposed) in

@@ -1,4 +1,5 @@
 -- Leaving a row is the Rust's `next_row`. Assumes nothing.
+use Rattle.std.specs.Prelude.{None, Option, Some, unwrap_or, is_some}
 use Prim.Native.Nat.{ℕ, ◌+◌, ◌-◌, ◌≤◌, ◌<◌, min}
 use mathlib.Core.Path.{◌≡◌, refl, sym, ap, ◌∙◌}
 use mathlib.Core.Bool.{Bool, true, false, ◌&&◌, ◌||◌, not}
@@ -9,14 +10,10 @@ use lib.Dec.{ltb, leb}
 use lib.ListN.{length}
 use Rattle.laws.specs.Choice.{pick}
 use Rattle.tune.specs.Cells.{row_cells}
-use Rattle.row_path.specs.Option.{or_before}
 use Rattle.row_path.specs.Orders.{next_order}
 use Rattle.row_path.specs.Enter.{ended_at, entered_at, entered}
 use Rattle.row_path.specs.Leave.{ticked, place_after, held_on, gone_on, left}
-use Rattle.row_path.specs.declared.option.ByteOption.{ByteOption}
-use Rattle.row_path.specs.declared.option.ByteOption.TheVariants.{None, Some}
 use Rattle.row_path.specs.declared.loops.Jump.{Jump}
-use Rattle.row_path.specs.declared.loops.Jump.TheVariants.{Stay, To}
 use Rattle.row_path.specs.declared.loops.Place.{Place}
 use Rattle.row_path.specs.declared.machine.Path.{Path}
 use Rattle.row_path.specs.declared.machine.Entered.{Entered}
@@ -30,8 +27,8 @@ use Rattle.section.specs.declared.state.State.{State}
 use Rattle.original.specs.State.{Song, PlayerState}
 use Rattle.original.specs.Fields.{self_ended, self_order_index, self_row, self_pattern_delay_remaining, self_replaying_for_pattern_delay, self_strikes}
 use Rattle.original.specs.Helpers.{one_more}
-use Rattle.original.specs.Player.{move_on, end_past, take_volume, advance, next_row}
-use Rattle.original.specs.Map.{song_of, player_of, state_map, waiting, waiting_in, row_from, is_some, pattern_there, played_map, entered_map}
+use Rattle.original.specs.Player.{move_on, or_next, end_past, take_volume, advance, next_row}
+use Rattle.original.specs.Map.{song_of, player_of, state_map, waiting, waiting_in, row_from, pattern_there, played_map, entered_map}
 use Rattle.original.proofs.Arms.{first}
 use Rattle.original.proofs.Scans.{waiting_equal}
 
@@ -45,7 +42,7 @@ end_same n s = by s.ended (leb n s.order_index) refl
     by false true e = refl
     by false false e = λ i. self_ended s (e i)
 
-volume_taken : (p : Path) (j : Jump) (cs : List Channel) (g : ℕ) (v : ByteOption) (k : ℕ) → self_strikes (take_volume v (player_of p j cs g v k)) 0 ≡ player_of p j cs (or_before v g) None 0
+volume_taken : (p : Path) (j : Option Jump) (cs : List Channel) (g : ℕ) (v : Option ℕ) (k : ℕ) → self_strikes (take_volume v (player_of p j cs g v k)) 0 ≡ player_of p j cs (unwrap_or v g) None 0
 unfolding player_of
 volume_taken p j cs g None k = refl
 volume_taken p j cs g (Some x) k = refl
@@ -66,31 +63,35 @@ module _ (m : Song) (p : Path) (cs : List Channel) (g : ℕ) where
   n = length m.order
 
   abbrev let_go : PlayerState
-  let_go = self_replaying_for_pattern_delay (self_pattern_delay_remaining (player_of p Stay cs g None 0) 0) false
+  let_go = self_replaying_for_pattern_delay (self_pattern_delay_remaining (player_of p None cs g None 0) 0) false
 
   -- the row that comes next
-  next_same : end_past n (move_on Stay let_go) ≡ player_of (gone_on n p (place_after Stay p.place)) Stay cs g None 0
+  next_same : end_past n (move_on None let_go) ≡ player_of (gone_on n p (place_after None p.place)) None cs g None 0
   unfolding player_of one_more gone_on ticked
   next_same = rw (past_row p.place.row) (by (ltb p.place.row 63))
     where
       by : (b : Bool) → end_past n (pick (not b) (self_order_index (self_row (self_row let_go (p.place.row + 1)) 0) (min (p.place.order + 1) 255)) (self_row let_go (p.place.row + 1)))
-          ≡ player_of (gone_on n p (pick {A = Place} b (record { order = p.place.order; row = p.place.row + 1 }) (record { order = next_order p.place.order; row = 0 }))) Stay cs g None 0
+          ≡ player_of (gone_on n p (pick {A = Place} b (record { order = p.place.order; row = p.place.row + 1 }) (record { order = next_order p.place.order; row = 0 }))) None cs g None 0
       by true = end_same n _
       by false = end_same n _
 
-  advanced : (j : Jump) (pattern : ℕ) → advance m (player_of p j cs g None 0) ≡ player_of (left m.order (record { path = p; jump = j; pattern = pattern })) Stay cs g None 0
+  advanced : (j : Option Jump) (pattern : ℕ) → advance m (player_of p j cs g None 0) ≡ player_of (left m.order (record { path = p; jump = j; pattern = pattern })) None cs g None 0
   unfolding player_of one_more left held_on gone_on ticked
-  advanced Stay pattern = by (ltb 0 p.hold.left && true)
+  advanced None pattern = by (ltb 0 p.hold.left && true)
     where
-      by : (b : Bool) → pick b (self_replaying_for_pattern_delay (self_pattern_delay_remaining (player_of p Stay cs g None 0) (p.hold.left - 1)) true) (end_past n (move_on Stay let_go))
-          ≡ player_of (pick b (held_on p) (gone_on n p (place_after Stay p.place))) Stay cs g None 0
+      by : (b : Bool) → pick b (self_replaying_for_pattern_delay (self_pattern_delay_remaining (player_of p None cs g None 0) (p.hold.left - 1)) true) (end_past n (move_on None let_go))
+          ≡ player_of (pick b (held_on p) (gone_on n p (place_after None p.place))) None cs g None 0
       by true = refl
       by false = next_same
-  advanced (To None r) pattern = rw (and_false (ltb 0 p.hold.left)) (end_same n _)
-  advanced (To (Some o) r) pattern = rw (and_false (ltb 0 p.hold.left)) (end_same n _)
+  advanced (Some to) pattern = rw (and_false (ltb 0 p.hold.left)) (jumped to.order)
+    where
+      jumped : (o : Option ℕ) → end_past n (self_row (self_order_index let_go (or_next o p.place.order)) to.row)
+          ≡ player_of (gone_on n p (record { order = unwrap_or o (next_order p.place.order); row = to.row })) None cs g None 0
+      jumped None = end_same n _
+      jumped (Some o) = end_same n _
 
 -- where a row did not end the tune, there was a pattern to enter
-there_by : (cells : List ℕ) (q : Path) (at : ℕ) (x : ByteOption) → (entered_at cells q at x).path.ended ≡ false → is_some x ≡ true
+there_by : (cells : List ℕ) (q : Path) (at : ℕ) (x : Option ℕ) → (entered_at cells q at x).path.ended ≡ false → is_some x ≡ true
 unfolding entered_at ended_at
 there_by cells q at None e = sym e
 there_by cells q at (Some v) e = refl
@@ -110,14 +111,14 @@ module _ (t : Tables) (s : State) where
   unfolding entered_map
   map-played h = first (pattern_there t s.path) _ h refl
 
-  volume_same : or_before (waiting_in t e) s.global_volume ≡ played.global_volume
+  volume_same : unwrap_or (waiting_in t e) s.global_volume ≡ played.global_volume
   unfolding row_played row_visited row_entered
   volume_same = by e.path.hold.held
     where
       row : List ℕ
       row = row_cells t.cells e.pattern e.path.place.row
 
-      by : (b : Bool) → or_before (pick b None (waiting row 32)) s.global_volume ≡ (row_visited b row e.path.s_info t.samples s.switches s.global_volume s.channels).global_volume
+      by : (b : Bool) → unwrap_or (pick b None (waiting row 32)) s.global_volume ≡ (row_visited b row e.path.s_info t.samples s.switches s.global_volume s.channels).global_volume
       by true = refl
       by false = waiting_equal row 32 s.global_volume
 

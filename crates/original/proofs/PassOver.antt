@@ -1,4 +1,5 @@
 -- The Rust's one pass over the channels is the path's scan beside our channel machine's pass. Assumes nothing.
+use Rattle.std.specs.Prelude.{None, Option, Some}
 use Prim.Native.Nat.{ℕ, zero, suc, ◌+◌, ◌*◌, ◌≤◌, ◌<◌}
 use mathlib.Core.Path.{◌≡◌, refl, sym, ap, ◌∙◌, subst}
 use mathlib.Core.Bool.{Bool, true, false}
@@ -17,8 +18,6 @@ use Rattle.tune.specs.Samples.{sample_of}
 use Rattle.tune.specs.declared.cells.Cell.{Cell}
 use Rattle.tune.specs.Numbers.{Bytes}
 use Rattle.row_path.specs.Scan.{heard, scanned, first_scan}
-use Rattle.row_path.specs.declared.option.ByteOption.{ByteOption}
-use Rattle.row_path.specs.declared.option.ByteOption.TheVariants.{None, Some}
 use Rattle.row_path.specs.declared.scan.Scan.{Scan}
 use Rattle.channel.specs.Channels.{waits}
 use Rattle.channel.specs.Row.{channel_entered}
@@ -143,7 +142,7 @@ module _ (m : Song) (samples : List ℕ) (named : (n : ℕ) → lookup m n ≡ s
     volume_next =
         ap (λ (a : Locals). a.pending_global_vol) tick_a
         ∙ waits_same k i (next n) l.a
-        ∙ ap (λ (v : ByteOption). pick (waits k i) (Some i) v) o.volume
+        ∙ ap (λ (v : Option ℕ). pick (waits k i) (Some i) v) o.volume
 
     new_here : (j : ℕ) → j ≡ n → get_or (set l.channels n tick.ch) j «Channel::default» ≡ rust_channel (done j) (next j)
     new_here j e = rw e (get_or-set_same l.channels n tick.ch «Channel::default» (omega (arith, o.long)) ∙ tick_ch)

@@ -1,4 +1,5 @@
 -- The second part of the loop's body: the cell is put off or played. Assumes nothing.
+use Rattle.std.specs.Prelude.{None, Option, Some}
 use Prim.Native.Nat.{ℕ, ◌-◌, ◌*◌, ◌/◌, ◌%◌, ◌^◌, ◌≤◌, ◌<◌, min}
 use mathlib.Core.Path.{◌≡◌, refl, sym, ap, ◌∙◌}
 use mathlib.Core.Bool.{Bool, true, false, ◌&&◌, not, false≢true}
@@ -15,8 +16,6 @@ use Rattle.tune.specs.Samples.{sample_of}
 use Rattle.tune.specs.declared.cells.Cell.{Cell}
 use Rattle.tune.specs.declared.opening.Fixed.{Fixed}
 use Rattle.tune.specs.declared.samples.Sample.{Sample}
-use Rattle.tune.specs.declared.samples.SampleOption.{SampleOption}
-use Rattle.tune.specs.declared.samples.SampleOption.TheVariants.{None, Some}
 use Rattle.channel.specs.declared.state.Channel.{Channel}
 use Rattle.channel.specs.declared.state.Played.{Played}
 use Rattle.channel.specs.Pitches.{frequency_on}
@@ -34,7 +33,7 @@ use Rattle.original.proofs.Pitches.{frequency_least, amiga_equal}
 use Rattle.original.proofs.Offsets.{offset_equal}
 
 -- what an instrument number names among the samples
-abbrev pub lookup : Song → ℕ → SampleOption
+abbrev pub lookup : Song → ℕ → Option Sample
 lookup m n = pick (ltb 0 n && leb n (length m.samples)) (Some (get_or m.samples (n - 1) any_sample)) None
 
 -- the loop of a sample is of 32-bit numbers
@@ -53,7 +52,7 @@ get_same : (m : Song) (i : ℕ) → (i ≡ 0 → ⊥) → sample_get m (i - 1) �
 unfolding sample_get
 get_same m i h = ap (λ (b : Bool). pick b (Some (get_or m.samples (i - 1) any_sample)) None) (in_range_lem i (length m.samples) h)
 
-load_same : (c : Channel) (named : SampleOption) (g : ℕ) → load_default c named g ≡ loaded_from c named g
+load_same : (c : Channel) (named : Option Sample) (g : ℕ) → load_default c named g ≡ loaded_from c named g
 unfolding load_default loaded_from with_stored load_volume clamp_pcm_volume
 load_same c None g = refl
 load_same c (Some s) g = refl
@@ -67,19 +66,19 @@ instrument_same m g l c = by (eqb l.instrument 0) refl
         ≡ pick b c (loaded_from (ch_instrument c l.instrument) (lookup m (pick b c.instrument l.instrument)) g)
     by true e = refl
     by false e =
-        ap (λ (s : SampleOption). load_default (ch_instrument c l.instrument) s g) (get_same m l.instrument (eqb-false l.instrument 0 e))
+        ap (λ (s : Option Sample). load_default (ch_instrument c l.instrument) s g) (get_same m l.instrument (eqb-false l.instrument 0 e))
         ∙ load_same _ _ g
 
-load_keeps : {X : Type 0} (f : Channel → X) (c : Channel) (named : SampleOption) (g : ℕ) → ((v : ℕ) → f (with_stored c v g) ≡ f c) → f (loaded_from c named g) ≡ f c
+load_keeps : {X : Type 0} (f : Channel → X) (c : Channel) (named : Option Sample) (g : ℕ) → ((v : ℕ) → f (with_stored c v g) ≡ f c) → f (loaded_from c named g) ≡ f c
 unfolding loaded_from
 load_keeps f c None g h = refl
 load_keeps f c (Some s) g h = h _
 
-loaded_instrument : (c : Channel) (l : Cell) (named : SampleOption) (g : ℕ) → (loaded c l.instrument named g).instrument ≡ instrument_of c l
+loaded_instrument : (c : Channel) (l : Cell) (named : Option Sample) (g : ℕ) → (loaded c l.instrument named g).instrument ≡ instrument_of c l
 unfolding loaded with_instrument with_stored
 loaded_instrument c l named g = push (λ (d : Channel). d.instrument) (eqb l.instrument 0) refl (load_keeps (λ (d : Channel). d.instrument) _ named g (λ v. refl))
 
-loaded_keeps : {X : Type 0} (f : Channel → X) (c : Channel) (i : ℕ) (named : SampleOption) (g : ℕ) → ((d : Channel) (v : ℕ) → f (with_stored d v g) ≡ f d) → f (with_instrument c i) ≡ f c → f (loaded c i named g) ≡ f c
+loaded_keeps : {X : Type 0} (f : Channel → X) (c : Channel) (i : ℕ) (named : Option Sample) (g : ℕ) → ((d : Channel) (v : ℕ) → f (with_stored d v g) ≡ f d) → f (with_instrument c i) ≡ f c → f (loaded c i named g) ≡ f c
 unfolding loaded
 loaded_keeps f c i named g h k = by (eqb i 0)
   where
@@ -87,15 +86,15 @@ loaded_keeps f c i named g h k = by (eqb i 0)
     by true = refl
     by false = load_keeps f (with_instrument c i) named g (h (with_instrument c i)) ∙ k
 
-loaded_command : (c : Channel) (i : ℕ) (named : SampleOption) (g : ℕ) → (loaded c i named g).command ≡ c.command
+loaded_command : (c : Channel) (i : ℕ) (named : Option Sample) (g : ℕ) → (loaded c i named g).command ≡ c.command
 unfolding with_instrument with_stored
 loaded_command c i named g = loaded_keeps (λ (d : Channel). d.command) c i named g (λ d v. refl) refl
 
-loaded_info : (c : Channel) (i : ℕ) (named : SampleOption) (g : ℕ) → (loaded c i named g).info ≡ c.info
+loaded_info : (c : Channel) (i : ℕ) (named : Option Sample) (g : ℕ) → (loaded c i named g).info ≡ c.info
 unfolding with_instrument with_stored
 loaded_info c i named g = loaded_keeps (λ (d : Channel). d.info) c i named g (λ d v. refl) refl
 
-loaded_fixed : (c : Channel) (i : ℕ) (named : SampleOption) (g : ℕ) → (loaded c i named g).fixed ≡ c.fixed
+loaded_fixed : (c : Channel) (i : ℕ) (named : Option Sample) (g : ℕ) → (loaded c i named g).fixed ≡ c.fixed
 unfolding with_instrument with_stored
 loaded_fixed c i named g = loaded_keeps (λ (d : Channel). d.fixed) c i named g (λ d v. refl) refl
 
@@ -207,7 +206,7 @@ module _ (m : Song) (samples : List ℕ) (named : (n : ℕ) → lookup m n ≡ s
       ∙ after_same l b g _
       ∙ ap (λ (n : ℕ). volumed_after (noted (loaded c l.instrument (lookup m (instrument_of c l)) g) l (lookup m n) m.amiga_limits) l.volume g)
       (loaded_instrument c l (lookup m (instrument_of c l)) g)
-      ∙ ap (λ (x : SampleOption). volumed_after (noted (loaded c l.instrument x g) l x m.amiga_limits) l.volume g) (named (instrument_of c l))
+      ∙ ap (λ (x : Option Sample). volumed_after (noted (loaded c l.instrument x g) l x m.amiga_limits) l.volume g) (named (instrument_of c l))
 
   -- a cell with the info in force plays as it does with its own
   same_columns : (g : ℕ) (l : Cell) (c : Channel) (i : ℕ) → play_columns m g l c ≡ play_columns m g (with_info l i) c

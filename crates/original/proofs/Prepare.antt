@@ -1,4 +1,5 @@
 -- The first part of the loop's body: the cell is taken, the memory read or written. The Rust's slot 19 is our S info. Assumes nothing.
+use Rattle.std.specs.Prelude.{None}
 use Prim.Native.Nat.{ℕ, ◌≤◌, ◌<◌}
 use mathlib.Core.Path.{◌≡◌, refl, sym, ap, ◌∙◌}
 use mathlib.Core.Bool.{Bool, true, false, ◌&&◌, ◌||◌, not, false≢true}
@@ -14,7 +15,6 @@ use Rattle.laws.proofs.Picks.{push}
 use Rattle.laws.proofs.Tables.{some_absent}
 use Rattle.tune.specs.declared.cells.Cell.{Cell}
 use Rattle.channel.specs.declared.state.Channel.{Channel}
-use Rattle.channel.specs.declared.state.TriggerOption.TheVariants.{None as NoTrigger}
 use Rattle.channel.specs.Memory.{resumes, has_memory, slot_of, remembered, recalled, stored, begun}
 use Rattle.channel.specs.Set.{with_row}
 use Rattle.original.specs.Fields.{ch_frozen, ch_info, ch_effect_memory, ch_retrig_counter}
@@ -56,7 +56,7 @@ recalls c = by (remembers c.command (length c.effect_memory)) (eqb c.info 0) _ _
     by false d i m = refl
 
 prepared : (c : Channel) (l : Cell) → prepare c l
-    ≡ with_row c l.command (info_in l.command l.info c.effect_memory) NoTrigger (pick (not (eqb l.command 17)) 0 c.retrig_counter)
+    ≡ with_row c l.command (info_in l.command l.info c.effect_memory) None (pick (not (eqb l.command 17)) 0 c.retrig_counter)
     (memory_in l.command l.info c.effect_memory) (pick (c.frozen && is_scx_resume_command l.command) false c.frozen)
 unfolding prepare take_cell clear_delay with_row
 prepared c l =
@@ -187,5 +187,5 @@ pub prepare_same : (c : Channel) (l : Cell) (x : ℕ) → length c.effect_memory
 unfolding begun with_row is_scx_resume_command resumes
 prepare_same c l x h =
     prepared (rust_channel c x) l
-    ∙ (λ t. with_row c l.command (info_same c.effect_memory h l.command l.info x t) NoTrigger (opposite (eqb l.command 17) 0 c.retrig_counter t)
+    ∙ (λ t. with_row c l.command (info_same c.effect_memory h l.command l.info x t) None (opposite (eqb l.command 17) 0 c.retrig_counter t)
     (memory_same c.effect_memory h l.command l.info x t) (frozen_same c.frozen (resumes l.command) t))

@@ -1,4 +1,5 @@
 -- The record of a row is what is read off the Rust's state. Assumes nothing.
+use Rattle.std.specs.Prelude.{None, Option, Some, is_some}
 use Prim.Native.Nat.{ℕ, suc, ◌*◌, ◌<◌}
 use mathlib.Core.Path.{◌≡◌, refl, sym, ap, ◌∙◌}
 use mathlib.Core.Bool.{Bool, true, false, false≢true}
@@ -12,8 +13,6 @@ use Rattle.tune.specs.Sizes.{pattern_count}
 use Rattle.row_path.specs.Orders.{skipped, pattern_at}
 use Rattle.row_path.specs.Enter.{arrived, settled, acted, visited, entered_at, entered}
 use Rattle.row_path.specs.Card.{length_of}
-use Rattle.row_path.specs.declared.option.ByteOption.{ByteOption}
-use Rattle.row_path.specs.declared.option.ByteOption.TheVariants.{None, Some}
 use Rattle.row_path.specs.declared.machine.Path.{Path}
 use Rattle.row_path.specs.declared.machine.Entered.{Entered}
 use Rattle.row_path.proofs.Drift.{entered_at_lem}
@@ -24,7 +23,7 @@ use Rattle.section.specs.Records.{row_head, channel_bytes, channels_bytes, recor
 use Rattle.section.specs.Machines.{row_played, record_of}
 use Rattle.section.specs.Walk.{voices_of}
 use Rattle.section.specs.declared.state.State.{State}
-use Rattle.original.specs.Map.{song_of, rust_channel, rust_channels, player_of, row_from, is_some, pattern_there, entered_map}
+use Rattle.original.specs.Map.{song_of, rust_channel, rust_channels, player_of, row_from, pattern_there, entered_map}
 use Rattle.original.specs.Turns.{clock_at_row, record_read}
 use Rattle.original.proofs.Leaving.{map-played}
 
@@ -53,7 +52,7 @@ visited_place : (cells : List ℕ) (p : Path) (v : ℕ) → ((visited cells p v)
 unfolding visited acted settled
 visited_place cells p v = choice (λ (e : Entered). (e.pattern ≡ v) × (e.path.place.order ≡ p.place.order)) p.hold.held (λ _. (refl, refl)) (λ _. (refl, refl))
 
-named_by : (orders cells : List ℕ) (p : Path) (n at : ℕ) (x : ByteOption) → pattern_at orders n at ≡ x → is_some x ≡ true
+named_by : (orders cells : List ℕ) (p : Path) (n at : ℕ) (x : Option ℕ) → pattern_at orders n at ≡ x → is_some x ≡ true
     → (entered_at cells p at x).pattern ≡ get_or orders (entered_at cells p at x).path.place.order 0
 unfolding entered_at arrived
 named_by orders cells p n at None e g = absurd (false≢true g)

@@ -1,4 +1,5 @@
 -- What the loop's locals hear is what the path's scan hears. Assumes nothing.
+use Rattle.std.specs.Prelude.{Option, Some, unwrap_or}
 use Prim.Native.Nat.{ℕ, zero, suc, ◌/◌, ◌%◌}
 use mathlib.Core.Path.{◌≡◌, refl, sym}
 use mathlib.Core.Bool.{Bool, true, false, ◌&&◌}
@@ -10,10 +11,7 @@ use lib.Seq.{set-get_or}
 use Rattle.laws.specs.Choice.{pick}
 use Rattle.laws.proofs.Picks.{push, either, chain}
 use Rattle.tune.specs.Cells.{cell_of}
-use Rattle.row_path.specs.Option.{or_before}
 use Rattle.row_path.specs.Scan.{scan_speed, scan_tempo, scan_order, scan_row, scan_loop, scan_delay, scan_info, special, special_at, break_row, heard, first_scan}
-use Rattle.row_path.specs.declared.option.ByteOption.{ByteOption}
-use Rattle.row_path.specs.declared.option.ByteOption.TheVariants.{Some}
 use Rattle.row_path.specs.declared.scan.Scan.{Scan}
 use Rattle.channel.specs.Channels.{waits, volume_after}
 use Rattle.original.specs.State.{Locals}
@@ -36,7 +34,7 @@ scan_of ys a =
       s_info = ys;
     }
 
-pub first_scan_lem : (ys : List ℕ) (v : ByteOption) → first_scan ys ≡ scan_of ys (no_locals v)
+pub first_scan_lem : (ys : List ℕ) (v : Option ℕ) → first_scan ys ≡ scan_of ys (no_locals v)
 unfolding first_scan
 first_scan_lem ys v = refl
 
@@ -66,7 +64,7 @@ hear_same ys a n k i =
     rest true false = refl
     rest false d = refl
 
-abbrev waits_in : Locals → ByteOption
+abbrev waits_in : Locals → Option ℕ
 waits_in a = a.pending_global_vol
 
 -- only V is heard by what waits
@@ -86,8 +84,8 @@ waits_same k i y a =
     by false d = refl
 
 -- the Vxx that waits, where it is taken, is our global volume behind the row
-pub waiting_equal : (row : List ℕ) (n g : ℕ) → or_before (waiting row n) g ≡ volume_after row n g
+pub waiting_equal : (row : List ℕ) (n g : ℕ) → unwrap_or (waiting row n) g ≡ volume_after row n g
 unfolding waiting volume_after
 waiting_equal row zero g = refl
 waiting_equal row (suc n) g =
-    push (λ (v : ByteOption). or_before v g) (waits (cell_of row n).command (cell_of row n).info) refl (waiting_equal row n g)
+    push (λ (v : Option ℕ). unwrap_or v g) (waits (cell_of row n).command (cell_of row n).info) refl (waiting_equal row n g)

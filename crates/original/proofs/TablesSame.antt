@@ -1,4 +1,5 @@
 -- Orders, rows and samples: the Rust's lists against the lent tables. Assumes nothing.
+use Rattle.std.specs.Prelude.{None, Option, Some}
 use Prim.Native.Nat.{ℕ, zero, suc, ◌+◌, ◌-◌, ◌*◌, ◌≤◌, ◌<◌, min}
 use mathlib.Core.Path.{◌≡◌, refl, sym, ap, ◌∙◌, subst}
 use mathlib.Core.Bool.{Bool, true, false, ◌&&◌}
@@ -16,12 +17,9 @@ use Rattle.tune.specs.Samples.{sample_at, sample_of}
 use Rattle.tune.specs.Numbers.{Bytes}
 use Rattle.tune.specs.declared.cells.Cell.{Cell}
 use Rattle.tune.specs.declared.samples.Sample.{Sample}
-use Rattle.tune.specs.declared.samples.SampleOption.TheVariants.{None as NoSample, Some as ASample}
 use Rattle.tune.proofs.Little.{little_small}
 use Rattle.tune.proofs.RowCell.{row_cell}
 use Rattle.row_path.specs.Orders.{skipped, pattern_at}
-use Rattle.row_path.specs.declared.option.ByteOption.{ByteOption}
-use Rattle.row_path.specs.declared.option.ByteOption.TheVariants.{None, Some}
 use Rattle.row_path.proofs.Steps.{skip_more, skip_stop, skip_end}
 use Rattle.channel.specs.declared.state.Switches.{Switches}
 use Rattle.section.specs.Tables.{Tables}
@@ -52,7 +50,7 @@ module _ (os : List ℕ) (h : length os ≤ 255) where
   found_at at = find_same 256 at (omega arith)
 
 -- with a pattern or none
-unfoldable pub play_at : Song → ByteOption → PlayerState → PlayerState
+unfoldable pub play_at : Song → Option ℕ → PlayerState → PlayerState
 play_at m None s = self_ended s true
 play_at m (Some v) s = play_row m (row_of m v s.row) (self_pending_global_vol (scope_loop s) None)
 
@@ -103,16 +101,16 @@ module _ (t : Tables) (w : Switches) where
       count = length-tabulate _ _
 
       some : (b : Bool) → (n ≡ 0 → ⊥) → leb n (sample_count t.samples) ≡ b
-          → pick b (ASample (get_or bodies (n - 1) any_sample)) NoSample ≡ pick (ltb (length t.samples) (n * 20)) NoSample (ASample (sample_at t.samples (n * 20 - 20)))
+          → pick b (Some (get_or bodies (n - 1) any_sample)) None ≡ pick (ltb (length t.samples) (n * 20)) None (Some (sample_at t.samples (n * 20 - 20)))
       some true z f =
           let l : n ≤ sample_count t.samples = leb-true n _ f in
           let k : (n - 1) * 20 ≡ n * 20 - 20 = omega arith in
           rw (le-ltb (length t.samples) (n * 20) (omega (arith, e)))
-          (ap ASample (get_d_tabulate (sample_count t.samples) (λ k. sample_at t.samples (k * 20)) (n - 1) any_sample (omega arith) ∙ ap (sample_at t.samples) k))
+          (ap Some (get_d_tabulate (sample_count t.samples) (λ k. sample_at t.samples (k * 20)) (n - 1) any_sample (omega arith) ∙ ap (sample_at t.samples) k))
       some false z f = let l : sample_count t.samples < n = leb-false n _ f in rw (lt-ltb (length t.samples) (n * 20) (omega (arith, e)))
 
-      by : (b : Bool) → eqb n 0 ≡ b → pick (ltb 0 n && leb n (length bodies)) (ASample (get_or bodies (n - 1) any_sample)) NoSample
-          ≡ pick b NoSample (pick (ltb (length t.samples) (n * 20)) NoSample (ASample (sample_at t.samples (n * 20 - 20))))
+      by : (b : Bool) → eqb n 0 ≡ b → pick (ltb 0 n && leb n (length bodies)) (Some (get_or bodies (n - 1) any_sample)) None
+          ≡ pick b None (pick (ltb (length t.samples) (n * 20)) None (Some (sample_at t.samples (n * 20 - 20))))
       by true f = rw (eqb-true n 0 f)
       by false f = rw (lt-ltb 0 n (omega (arith, eqb-false n 0 f)), count) (some (leb n (sample_count t.samples)) (eqb-false n 0 f) refl)
 

@@ -1,4 +1,5 @@
 -- Once the memory is read, no step of our channel reads or writes it: a change to it passes through. Assumes nothing.
+use Rattle.std.specs.Prelude.{None, Option, Some}
 use Prim.Native.Nat.{ℕ, ◌/◌, ◌%◌}
 use mathlib.Core.Path.{◌≡◌, refl, sym, ap, ◌∙◌}
 use mathlib.Core.Bool.{Bool, true, false, ◌&&◌, not}
@@ -10,8 +11,6 @@ use Rattle.laws.proofs.Picks.{push}
 use Rattle.tune.specs.Samples.{sample_of}
 use Rattle.tune.specs.declared.cells.Cell.{Cell}
 use Rattle.tune.specs.declared.samples.Sample.{Sample}
-use Rattle.tune.specs.declared.samples.SampleOption.{SampleOption}
-use Rattle.tune.specs.declared.samples.SampleOption.TheVariants.{None, Some}
 use Rattle.channel.specs.declared.state.Channel.{Channel}
 use Rattle.channel.specs.declared.state.Played.{Played}
 use Rattle.channel.specs.declared.state.Switches.{Switches}
@@ -30,12 +29,12 @@ module _ (f : List ℕ → List ℕ) where
   abbrev pub over_in : Played → Played
   over_in e = record { channel = over e.channel; struck = e.struck }
 
-  load_from_over : (c : Channel) (named : SampleOption) (g : ℕ) → loaded_from (over c) named g ≡ over (loaded_from c named g)
+  load_from_over : (c : Channel) (named : Option Sample) (g : ℕ) → loaded_from (over c) named g ≡ over (loaded_from c named g)
   unfolding loaded_from with_stored
   load_from_over c None g = refl
   load_from_over c (Some s) g = refl
 
-  load_over : (c : Channel) (i : ℕ) (named : SampleOption) (g : ℕ) → loaded (over c) i named g ≡ over (loaded c i named g)
+  load_over : (c : Channel) (i : ℕ) (named : Option Sample) (g : ℕ) → loaded (over c) i named g ≡ over (loaded c i named g)
   unfolding loaded with_instrument
   load_over c i named g = sym (push over (eqb i 0) refl (sym (load_from_over (with_instrument c i) named g)))
 
@@ -51,18 +50,18 @@ module _ (f : List ℕ → List ℕ) where
   unfolding started with_start with_pitch voice_of
   start_over c l x s a = refl
 
-  on_over : (c : Channel) (l : Cell) (named : SampleOption) (a : Bool) → note_on (over c) l named a ≡ over_in (note_on c l named a)
+  on_over : (c : Channel) (l : Cell) (named : Option Sample) (a : Bool) → note_on (over c) l named a ≡ over_in (note_on c l named a)
   unfolding note_on
   on_over c l None a = refl
   on_over c l (Some s) a =
       sym (push over_in (slides l.command && lt silence c.frequency) (ap unstruck (sym (aim_over c l.note _ a))) (ap strikes (sym (start_over c l _ s a))))
 
-  back_over : (c : Channel) (l : Cell) (named : SampleOption) (a : Bool) → slid_back (over c) l named a ≡ over (slid_back c l named a)
+  back_over : (c : Channel) (l : Cell) (named : Option Sample) (a : Bool) → slid_back (over c) l named a ≡ over (slid_back c l named a)
   unfolding slid_back
   back_over c l None a = refl
   back_over c l (Some s) a = sym (push over (slides l.command && not (eqb c.last_note 0)) (sym (aim_over c _ _ a)) refl)
 
-  noted_over : (c : Channel) (l : Cell) (named : SampleOption) (a : Bool) → noted (over c) l named a ≡ over_in (noted c l named a)
+  noted_over : (c : Channel) (l : Cell) (named : Option Sample) (a : Bool) → noted (over c) l named a ≡ over_in (noted c l named a)
   unfolding noted
   noted_over c l named a =
       sym (push over_in (eqb l.note 254) (ap unstruck (sym (cut_over c)))
@@ -75,7 +74,7 @@ module _ (f : List ℕ → List ℕ) where
   play_over : (c : Channel) (l : Cell) (samples : List ℕ) (a : Bool) (g : ℕ) → play_cell (over c) l samples a g ≡ over_in (play_cell c l samples a g)
   unfolding play_cell volumed_after
   play_over c l samples a g =
-      let s : SampleOption = sample_of samples (instrument_of c l) in
+      let s : Option Sample = sample_of samples (instrument_of c l) in
       ap (λ (d : Channel). volumed_after (noted d l s a) l.volume g) (load_over c l.instrument s g)
       ∙ ap (λ (e : Played). volumed_after e l.volume g) (noted_over (loaded c l.instrument s g) l s a)
       ∙ ap (λ (d : Channel). record { channel = d; struck = (noted (loaded c l.instrument s g) l s a).struck }) (volume_over _ l.volume g)

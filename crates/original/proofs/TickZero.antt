@@ -1,4 +1,5 @@
 -- Tick 0: the channel's part is our command's, and the locals' part goes by the command and the info alone. Assumes nothing.
+use Rattle.std.specs.Prelude.{Some}
 use Prim.Native.Nat.{ℕ, ◌/◌, ◌%◌, ◌≤◌}
 use mathlib.Core.Path.{◌≡◌, refl, sym, ap, ◌∙◌}
 use mathlib.Core.Bool.{Bool, true, false, ◌&&◌, ◌||◌, not}
@@ -9,7 +10,6 @@ use Rattle.laws.specs.Choice.{pick}
 use Rattle.laws.proofs.Picks.{push, chain, guarded}
 use Rattle.pitch.specs.Limits.{limited}
 use Rattle.pitch.specs.Slides.{slid, factor_number}
-use Rattle.row_path.specs.declared.option.ByteOption.TheVariants.{Some}
 use Rattle.channel.specs.declared.state.Channel.{Channel}
 use Rattle.channel.specs.declared.state.Switches.{Switches}
 use Rattle.channel.specs.Levels.{volume_slid, set_pan}

@@ -1,4 +1,5 @@
 -- The two walks side by side: a state that is accepted gives the same states and the same records row by row. Assumes nothing.
+use Rattle.std.specs.Prelude.{None, Option, Some, is_some}
 use Prim.Native.Nat.{ℕ, zero, suc}
 use mathlib.Core.Path.{◌≡◌, refl, sym, ap, ◌∙◌}
 use mathlib.Core.Bool.{Bool, true, false, false≢true}
@@ -11,9 +12,6 @@ use Rattle.row_path.specs.Enter.{ended_at, arrived, settled, acted, visited, ent
 use Rattle.row_path.specs.Leave.{ticked, left}
 use Rattle.row_path.specs.Sound.{Sound}
 use Rattle.row_path.specs.Walk.{Stop, Row, turn_by, turn, more, onward, path_walk}
-use Rattle.row_path.specs.declared.option.ByteOption.{ByteOption}
-use Rattle.row_path.specs.declared.option.ByteOption.TheVariants.{None, Some}
-use Rattle.row_path.specs.declared.loops.Jump.TheVariants.{Stay}
 use Rattle.row_path.specs.declared.machine.Clock.{Clock}
 use Rattle.row_path.specs.declared.machine.Path.{Path}
 use Rattle.row_path.specs.declared.machine.Entered.{Entered}
@@ -30,7 +28,7 @@ use Rattle.section.proofs.Walks.{machines, walk_machines}
 use Rattle.original.specs.State.{Song, PlayerState}
 use Rattle.original.specs.New.{«Channel::default»}
 use Rattle.original.specs.Player.{next_row}
-use Rattle.original.specs.Map.{song_of, player_of, state_map, waiting_in, row_from, is_some, pattern_there, played_map, entered_map}
+use Rattle.original.specs.Map.{song_of, player_of, state_map, waiting_in, row_from, pattern_there, played_map, entered_map}
 use Rattle.original.specs.Turns.{on_from, turns, ReadOff, none_read, one_read, read_from, rows_read}
 use Rattle.original.specs.Untransposed.{Untransposed}
 use Rattle.original.specs.Call.{read_for}
@@ -41,10 +39,10 @@ use Rattle.original.proofs.Reading.{clock_read, record_read_lem}
 use Rattle.original.proofs.Staying.{behind_sound, behind_shaped, row_untransposed, behind_untransposed}
 
 -- a row that ended the tune leaves the channels, and no jump waits
-closed_by : (cells : List ℕ) (s : State) (t : Tables) (at : ℕ) (x : ByteOption) → s.path.ended ≡ false → (entered_at cells s.path at x).path.ended ≡ true
+closed_by : (cells : List ℕ) (s : State) (t : Tables) (at : ℕ) (x : Option ℕ) → s.path.ended ≡ false → (entered_at cells s.path at x).path.ended ≡ true
     → pick (is_some x) (played_map s (entered_at cells s.path at x) (row_played t s.switches (entered_at cells s.path at x) (voices_of s)) (waiting_in t (entered_at cells s.path at x)))
     (player_of (entered_at cells s.path at x).path (entered_at cells s.path at x).jump s.channels s.global_volume None 0)
-    ≡ player_of (entered_at cells s.path at x).path Stay s.channels s.global_volume None 0
+    ≡ player_of (entered_at cells s.path at x).path None s.channels s.global_volume None 0
 unfolding entered_at ended_at visited acted settled arrived
 closed_by cells s t at None g e = refl
 closed_by cells s t at (Some v) g e =

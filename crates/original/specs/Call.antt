@@ -4,7 +4,7 @@ use Rattle.section.specs.Tables.{Tables}
 use Rattle.section.specs.Records.{record_size}
 use Rattle.section.specs.Section.{joined}
 use Rattle.section.specs.declared.state.State.{State}
-use Rattle.section.specs.declared.state.Sectioned.{Sectioned}
+use Rattle.section.specs.Section.{Sectioned}
 use Rattle.original.specs.State.{PlayerState}
 use Rattle.original.specs.Map.{song_of, state_map}
 use Rattle.original.specs.Turns.{turns, ReadOff, rows_read}

@@ -1,18 +1,17 @@
 -- One field written, the others kept: the assignments of the Rust, `ch.field = x`, `field = x` of a local, `self.field = x`. Assumes nothing.
-use Rattle.std.specs.Prelude.{ℕ, Bool, List, Float}
+use Rattle.std.specs.Prelude.{ℕ, Bool, List, Float, Option}
 use Rattle.tune.specs.declared.opening.Fixed.{Fixed}
-use Rattle.row_path.specs.declared.option.ByteOption.{ByteOption}
 use Rattle.row_path.specs.declared.loops.Jump.{Jump}
 use Rattle.channel.specs.declared.state.Channel.{Channel}
 use Rattle.channel.specs.declared.state.Oscillator.{Oscillator}
 use Rattle.channel.specs.declared.state.Tremor.{Tremor}
-use Rattle.channel.specs.declared.state.TriggerOption.{TriggerOption}
 use Rattle.channel.specs.declared.state.Waveform.{Waveform}
 use Rattle.original.specs.State.{Locals, PlayerState}
+use Rattle.channel.specs.declared.state.PendingTrigger.{PendingTrigger}
 
 -- a channel by its fields in the Rust's order
 abbrev channel :
-    ℕ → Float → Float → ℕ → ℕ → Bool → Float → ℕ → ℕ → Oscillator → Oscillator → ℕ → TriggerOption → Bool → ℕ → Tremor → ℕ → List ℕ → Bool → Fixed →
+    ℕ → Float → Float → ℕ → ℕ → Bool → Float → ℕ → ℕ → Oscillator → Oscillator → ℕ → Option PendingTrigger → Bool → ℕ → Tremor → ℕ → List ℕ → Bool → Fixed →
     ℕ → ℕ → Channel
 channel
     instrument frequency samplePos volume pan active targetFrequency command info vibrato tremolo lastNote pendingDelay glissando retrigCounter tremor
@@ -71,7 +70,7 @@ ch_effect_memory c x =
     c.vibrato c.tremolo c.last_note c.pending_delay c.glissando c.retrig_counter c.tremor c.stored_volume x
     c.frozen c.fixed c.opl_voice c.voice_global_vol
 
-abbrev pub ch_pending_delay : Channel → TriggerOption → Channel
+abbrev pub ch_pending_delay : Channel → Option PendingTrigger → Channel
 ch_pending_delay c x =
     channel c.instrument c.frequency c.sample_pos c.volume c.pan c.active c.target_frequency c.command c.info
     c.vibrato c.tremolo c.last_note x c.glissando c.retrig_counter c.tremor c.stored_volume c.effect_memory
@@ -198,7 +197,7 @@ ch_fixed c x =
     c.effect_memory c.frozen x c.opl_voice c.voice_global_vol
 
 -- the locals by their names in their order
-abbrev locals : ByteOption → ByteOption → ByteOption → ByteOption → ByteOption → ByteOption → ByteOption → Locals
+abbrev locals : Option ℕ → Option ℕ → Option ℕ → Option ℕ → Option ℕ → Option ℕ → Option ℕ → Locals
 locals rowSpeed rowTempo jumpOrder jumpRow rowLoopRequest rowPatternDelay pendingGlobalVol =
     record {
       row_speed = rowSpeed;
@@ -210,37 +209,37 @@ locals rowSpeed rowTempo jumpOrder jumpRow rowLoopRequest rowPatternDelay pendin
       pending_global_vol = pendingGlobalVol;
     }
 
-abbrev pub let_row_speed : Locals → ByteOption → Locals
+abbrev pub let_row_speed : Locals → Option ℕ → Locals
 let_row_speed a x =
     locals x a.row_tempo a.jump_order a.jump_row a.row_loop_request a.row_pattern_delay a.pending_global_vol
 
-abbrev pub let_row_tempo : Locals → ByteOption → Locals
+abbrev pub let_row_tempo : Locals → Option ℕ → Locals
 let_row_tempo a x =
     locals a.row_speed x a.jump_order a.jump_row a.row_loop_request a.row_pattern_delay a.pending_global_vol
 
-abbrev pub let_jump_order : Locals → ByteOption → Locals
+abbrev pub let_jump_order : Locals → Option ℕ → Locals
 let_jump_order a x =
     locals a.row_speed a.row_tempo x a.jump_row a.row_loop_request a.row_pattern_delay a.pending_global_vol
 
-abbrev pub let_jump_row : Locals → ByteOption → Locals
+abbrev pub let_jump_row : Locals → Option ℕ → Locals
 let_jump_row a x =
     locals a.row_speed a.row_tempo a.jump_order x a.row_loop_request a.row_pattern_delay a.pending_global_vol
 
-abbrev pub let_row_loop_request : Locals → ByteOption → Locals
+abbrev pub let_row_loop_request : Locals → Option ℕ → Locals
 let_row_loop_request a x =
     locals a.row_speed a.row_tempo a.jump_order a.jump_row x a.row_pattern_delay a.pending_global_vol
 
-abbrev pub let_row_pattern_delay : Locals → ByteOption → Locals
+abbrev pub let_row_pattern_delay : Locals → Option ℕ → Locals
 let_row_pattern_delay a x =
     locals a.row_speed a.row_tempo a.jump_order a.jump_row a.row_loop_request x a.pending_global_vol
 
-abbrev pub let_pending_global_vol : Locals → ByteOption → Locals
+abbrev pub let_pending_global_vol : Locals → Option ℕ → Locals
 let_pending_global_vol a x =
     locals a.row_speed a.row_tempo a.jump_order a.jump_row a.row_loop_request a.row_pattern_delay x
 
 -- a player's state by its fields in their order
 abbrev player :
-    List Channel → ℕ → ℕ → ℕ → ℕ → ℕ → Bool → Jump → ℕ → ByteOption → ByteOption → ℕ → Bool → ByteOption → ℕ → PlayerState
+    List Channel → ℕ → ℕ → ℕ → ℕ → ℕ → Bool → Option Jump → ℕ → Option ℕ → Option ℕ → ℕ → Bool → Option ℕ → ℕ → PlayerState
 player
     channels speed bpm global_volume orderIndex row ended pendingJump loopStartRow loopCount loopPatternOrder patternDelayRemaining
     replayingForPatternDelay pendingGlobalVol strikes =
@@ -304,7 +303,7 @@ self_ended s x =
     s.loop_count s.loop_pattern_order s.pattern_delay_remaining s.replaying_for_pattern_delay s.pending_global_vol
     s.strikes
 
-abbrev pub self_pending_jump : PlayerState → Jump → PlayerState
+abbrev pub self_pending_jump : PlayerState → Option Jump → PlayerState
 self_pending_jump s x =
     player s.channels s.speed s.bpm s.global_volume s.order_index s.row s.ended x s.loop_start_row
     s.loop_count s.loop_pattern_order s.pattern_delay_remaining s.replaying_for_pattern_delay s.pending_global_vol
@@ -316,13 +315,13 @@ self_loop_start_row s x =
     s.loop_count s.loop_pattern_order s.pattern_delay_remaining s.replaying_for_pattern_delay s.pending_global_vol
     s.strikes
 
-abbrev pub self_loop_count : PlayerState → ByteOption → PlayerState
+abbrev pub self_loop_count : PlayerState → Option ℕ → PlayerState
 self_loop_count s x =
     player s.channels s.speed s.bpm s.global_volume s.order_index s.row s.ended s.pending_jump
     s.loop_start_row x s.loop_pattern_order s.pattern_delay_remaining s.replaying_for_pattern_delay
     s.pending_global_vol s.strikes
 
-abbrev pub self_loop_pattern_order : PlayerState → ByteOption → PlayerState
+abbrev pub self_loop_pattern_order : PlayerState → Option ℕ → PlayerState
 self_loop_pattern_order s x =
     player s.channels s.speed s.bpm s.global_volume s.order_index s.row s.ended s.pending_jump
     s.loop_start_row s.loop_count x s.pattern_delay_remaining s.replaying_for_pattern_delay s.pending_global_vol
@@ -340,7 +339,7 @@ self_replaying_for_pattern_delay s x =
     s.loop_start_row s.loop_count s.loop_pattern_order s.pattern_delay_remaining x s.pending_global_vol
     s.strikes
 
-abbrev pub self_pending_global_vol : PlayerState → ByteOption → PlayerState
+abbrev pub self_pending_global_vol : PlayerState → Option ℕ → PlayerState
 self_pending_global_vol s x =
     player s.channels s.speed s.bpm s.global_volume s.order_index s.row s.ended s.pending_jump
     s.loop_start_row s.loop_count s.loop_pattern_order s.pattern_delay_remaining s.replaying_for_pattern_delay x

@@ -1,5 +1,5 @@
 -- Our tables, states and entered rows as the Rust's. Assumes nothing.
-use Rattle.std.specs.Prelude.{ℕ, zero, suc, ◌*◌, Bool, true, false, List, get_or, set, take}
+use Rattle.std.specs.Prelude.{ℕ, zero, suc, ◌*◌, Bool, List, get_or, set, take, None, Option, Some, is_some}
 use Rattle.laws.specs.Choice.{pick}
 use Rattle.laws.specs.Entries.{map_from, tabulate}
 use Rattle.tune.specs.Sizes.{sample_size, pattern_count, sample_count}
@@ -7,10 +7,7 @@ use Rattle.tune.specs.Cells.{cell_at, row_cells, cell_of}
 use Rattle.tune.specs.Samples.{sample_at}
 use Rattle.row_path.specs.Orders.{skipped, pattern_at}
 use Rattle.row_path.specs.Enter.{entered}
-use Rattle.row_path.specs.declared.option.ByteOption.{ByteOption}
-use Rattle.row_path.specs.declared.option.ByteOption.TheVariants.{None, Some}
 use Rattle.row_path.specs.declared.loops.Jump.{Jump}
-use Rattle.row_path.specs.declared.loops.Jump.TheVariants.{Stay}
 use Rattle.row_path.specs.declared.machine.Path.{Path}
 use Rattle.row_path.specs.declared.machine.Entered.{Entered}
 use Rattle.channel.specs.Channels.{waits}
@@ -48,7 +45,7 @@ unfoldable pub rust_channels : List Channel → List ℕ → List Channel
 rust_channels cs sInfos = map_from (λ i c. rust_channel c (get_or sInfos i 0)) 0 cs
 
 -- a player by our path, jump, channels, global volume, waiting Vxx and strikes. The Rust has no card start and no rate
-unfoldable pub player_of : Path → Jump → List Channel → ℕ → ByteOption → ℕ → PlayerState
+unfoldable pub player_of : Path → Option Jump → List Channel → ℕ → Option ℕ → ℕ → PlayerState
 player_of p j cs g v k =
     record {
       channels = rust_channels cs p.s_info;
@@ -70,15 +67,15 @@ player_of p j cs g v k =
 
 -- between two rows no jump and no Vxx waits
 abbrev pub state_map : State → PlayerState
-state_map s = player_of s.path Stay s.channels s.global_volume None 0
+state_map s = player_of s.path None s.channels s.global_volume None 0
 
 -- the Vxx up to 64 that waits after the first n channels of a row's cells: the last one
-unfoldable pub waiting : List ℕ → ℕ → ByteOption
+unfoldable pub waiting : List ℕ → ℕ → Option ℕ
 waiting row zero = None
 waiting row (suc n) = pick (waits (cell_of row n).command (cell_of row n).info) (Some (cell_of row n).info) (waiting row n)
 
 -- on a held visit none waits
-abbrev pub waiting_in : Tables → Entered → ByteOption
+abbrev pub waiting_in : Tables → Entered → Option ℕ
 waiting_in t e = pick e.path.hold.held None (waiting (row_cells t.cells e.pattern e.path.place.row) 32)
 
 -- the row that our path enters from a state
@@ -86,16 +83,12 @@ abbrev pub row_from : Tables → State → Entered
 row_from t s = entered t.orders t.cells s.path
 
 -- it is there
-abbrev pub is_some : ByteOption → Bool
-is_some None = false
-is_some (Some x) = true
-
 -- behind the skipping there is a pattern to enter
 abbrev pub pattern_there : Tables → Path → Bool
 pattern_there t p = is_some (pattern_at t.orders (pattern_count t.cells) (skipped t.orders p.place.order))
 
 -- the player once a row is entered, with its channels, strikes and waiting Vxx; its global volume is the one before
-abbrev pub played_map : State → Entered → Rowed → ByteOption → PlayerState
+abbrev pub played_map : State → Entered → Rowed → Option ℕ → PlayerState
 played_map s e r v = player_of e.path e.jump r.channels s.global_volume v r.strikes
 
 -- the player once our path has entered e from a state; where there is no pattern to enter, the channels stay

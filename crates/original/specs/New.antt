@@ -1,12 +1,9 @@
 -- The Rust's `Channel::default` and what `PlayerState::new` makes of it, with 01's opening values for the header's. Assumes nothing.
-use Rattle.std.specs.Prelude.{false, map, pos, replicate}
+use Rattle.std.specs.Prelude.{false, map, pos, replicate, None}
 use Rattle.tune.specs.declared.cells.Cell.{Cell}
 use Rattle.tune.specs.declared.opening.ChannelOpening.{ChannelOpening}
 use Rattle.tune.specs.declared.opening.Opening.{Opening}
-use Rattle.row_path.specs.declared.option.ByteOption.TheVariants.{None}
-use Rattle.row_path.specs.declared.loops.Jump.TheVariants.{Stay}
 use Rattle.channel.specs.declared.state.Channel.{Channel}
-use Rattle.channel.specs.declared.state.TriggerOption.TheVariants.{None as NoTrigger}
 use Rattle.channel.specs.declared.state.Waveform.TheVariants.{Sine}
 use Rattle.original.specs.Constants.{zero_float}
 use Rattle.original.specs.State.{PlayerState}
@@ -32,7 +29,7 @@ abbrev pub «Channel::default» : Channel
       vibrato = record { pos = 0; waveform = Sine; keep_pos_on_new_note = false };
       tremolo = record { pos = 0; waveform = Sine; keep_pos_on_new_note = false };
       last_note = 0;
-      pending_delay = NoTrigger;
+      pending_delay = None;
       glissando = false;
       retrig_counter = 0;
       tremor = record { on_counter = 0; off_counter = 0 };
@@ -60,7 +57,7 @@ unfoldable pub «PlayerState::new» : Opening → PlayerState
       order_index = 0;
       row = 0;
       ended = false;
-      pending_jump = Stay;
+      pending_jump = None;
       loop_start_row = 0;
       loop_count = None;
       loop_pattern_order = None;

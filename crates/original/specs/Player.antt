@@ -1,23 +1,17 @@
 -- The Rust's `enter_row` and `next_row`, statement by statement, with 01's stand-ins: `apply_retrigger` and `apply_tremor_step` do
 -- nothing on tick 0, an AdLib voice is a mark (0 none, 1 keyed, 2 released), a waiting Vxx becomes the global volume in `next_row`,
 -- and `divergent_jump_count` is left out. Above each definition stands what it transcribes. Assumes nothing.
-use Rattle.std.specs.Prelude.{ℕ, zero, suc, ◌+◌, ◌-◌, ◌*◌, ◌/◌, ◌%◌, min, max, Bool, true, false, ◌||◌, ◌&&◌, not, List, [], eqb, ltb, leb, length, get_or, set, Float}
+use Rattle.std.specs.Prelude.{ℕ, zero, suc, ◌+◌, ◌-◌, ◌*◌, ◌/◌, ◌%◌, min, max, Bool, true, false, ◌||◌, ◌&&◌, not, List, [], eqb, ltb, leb, length, get_or, set, Float, None, Option, Some, is_none}
 use Rattle.std.specs.Float.{binary32}
 use Rattle.std.specs.Float.Ieee.{lt, mul}
 use Rattle.laws.specs.Choice.{pick}
 use Rattle.laws.specs.Masks.{bit_at}
 use Rattle.tune.specs.declared.cells.Cell.{Cell}
 use Rattle.tune.specs.declared.samples.Sample.{Sample}
-use Rattle.tune.specs.declared.samples.SampleOption.{SampleOption}
-use Rattle.tune.specs.declared.samples.SampleOption.TheVariants.{None as NoSample, Some as ASample}
 use Rattle.row_path.specs.Option.{is_at}
-use Rattle.row_path.specs.declared.option.ByteOption.{ByteOption}
-use Rattle.row_path.specs.declared.option.ByteOption.TheVariants.{None, Some}
 use Rattle.row_path.specs.declared.loops.Jump.{Jump}
-use Rattle.row_path.specs.declared.loops.Jump.TheVariants.{Stay, To}
 use Rattle.channel.specs.declared.state.Channel.{Channel}
 use Rattle.channel.specs.declared.state.Played.{Played}
-use Rattle.channel.specs.declared.state.TriggerOption.TheVariants.{None as NoTrigger, Some as ATrigger}
 use Rattle.original.specs.State.{Song, PlayerState, Locals}
 use Rattle.original.specs.Fields.{ch_command, ch_info, ch_frozen, ch_effect_memory, ch_pending_delay, ch_retrig_counter, ch_instrument, ch_volume, ch_stored_volume, ch_voice_global_vol, ch_opl_voice, ch_active, ch_frequency, ch_target_frequency, ch_sample_pos, ch_vibrato_pos, ch_tremolo_pos, ch_last_note, ch_glissando, ch_vibrato_waveform, ch_keep_vibrato_pos_on_new_note, ch_tremolo_waveform, ch_keep_tremolo_pos_on_new_note, ch_pan}
 use Rattle.original.specs.Fields.{let_row_speed, let_row_tempo, let_jump_order, let_jump_row, let_row_loop_request, let_row_pattern_delay, let_pending_global_vol}
@@ -47,7 +41,7 @@ recall ch =
 
 -- ch.pending_delay = None;
 unfoldable pub clear_delay : Channel → Channel
-clear_delay ch = ch_pending_delay ch NoTrigger
+clear_delay ch = ch_pending_delay ch None
 
 -- if ch.command != cmd::Q_RETRIGGER { ch.retrig_counter = 0; }
 unfoldable pub clear_retrig : Channel → Channel
@@ -62,8 +56,8 @@ abbrev pub any_sample : Sample
 any_sample = record { kind = 0; volume = 0; looped = false; length = 0; loop_start = 0; loop_end = 0; c5_speed = 0 }
 
 -- self.samples.get(i)
-unfoldable pub sample_get : Song → ℕ → SampleOption
-sample_get m i = pick (ltb i (length m.samples)) (ASample (get_or m.samples i any_sample)) NoSample
+unfoldable pub sample_get : Song → ℕ → Option Sample
+sample_get m i = pick (ltb i (length m.samples)) (Some (get_or m.samples i any_sample)) None
 
 -- let v = if ch.adlib { s.volume.min(ADLIB_VOLUME_PEAK) } else { clamp_pcm_volume(s.volume as u16) };
 unfoldable pub load_volume : Channel → Sample → ℕ
@@ -74,9 +68,9 @@ abbrev pub store_volume : Channel → ℕ → ℕ → Channel
 store_volume ch v g = ch_voice_global_vol (ch_stored_volume (ch_volume ch v) v) g
 
 -- if let Some(s) = self.samples.get(..) { .. }
-unfoldable pub load_default : Channel → SampleOption → ℕ → Channel
-load_default ch NoSample g = ch
-load_default ch (ASample s) g = store_volume ch (load_volume ch s) g
+unfoldable pub load_default : Channel → Option Sample → ℕ → Channel
+load_default ch None g = ch
+load_default ch (Some s) g = store_volume ch (load_volume ch s) g
 
 -- if cell.instrument != 0 { ch.instrument = cell.instrument; if let Some(s) = self.samples.get(cell.instrument as usize - 1) { .. } }
 unfoldable pub instrument_column : Song → ℕ → Cell → Channel → Channel
@@ -187,7 +181,7 @@ is_s00_repeat_sdx ch cell = is_note_delay ch && eqb cell.info 0 && eqb cell.comm
 -- ch.pending_delay = Some(PendingTrigger { .. });
 unfoldable pub stash : Channel → Cell → Channel
 stash ch cell =
-    ch_pending_delay ch (ATrigger (record { fire_tick = ch.info % 16; note = cell.note; instrument = cell.instrument; volume = cell.volume }))
+    ch_pending_delay ch (Some (record { fire_tick = ch.info % 16; note = cell.note; instrument = cell.instrument; volume = cell.volume }))
 
 -- if is_note_delay && !is_s00_repeat_sdx { stash } else { if is_s00_repeat_sdx { stash } the columns }
 unfoldable pub deliver : Song → ℕ → Cell → Channel → Played
@@ -326,7 +320,7 @@ order_from order (suc turns) at =
     at
 
 -- and what it returns there
-unfoldable pub find_next_playable_order : List ℕ → ℕ → ByteOption
+unfoldable pub find_next_playable_order : List ℕ → ℕ → Option ℕ
 find_next_playable_order order at = pick (ltb at (length order)) (pick (eqb (get_or order at 0) 0xFF) None (Some (get_or order at 0))) None
 
 -- if self.loop_pattern_order != Some(cur_order) { self.loop_pattern_order = Some(cur_order); self.loop_start_row = 0; self.loop_count = None; }
@@ -337,7 +331,7 @@ scope_loop s =
     s
 
 -- let mut row_speed: Option<u8> = None; and so on
-abbrev pub no_locals : ByteOption → Locals
+abbrev pub no_locals : Option ℕ → Locals
 no_locals v =
     record {
       row_speed = None;
@@ -350,64 +344,64 @@ no_locals v =
     }
 
 -- jump_row.unwrap_or(0)
-abbrev pub or_zero : ByteOption → ℕ
+abbrev pub or_zero : Option ℕ → ℕ
 or_zero None = 0
 or_zero (Some r) = r
 
 -- if jump_order.is_some() || jump_row.is_some() { row_jump = Some(Jump { order: jump_order, row: jump_row.unwrap_or(0) }); }
-abbrev pub merge_jump : ByteOption → ByteOption → Jump
-merge_jump None None = Stay
-merge_jump None (Some r) = To None (or_zero (Some r))
-merge_jump (Some o) r = To (Some o) (or_zero r)
+abbrev pub merge_jump : Option ℕ → Option ℕ → Option Jump
+merge_jump None None = None
+merge_jump None (Some r) = Some (record { order = None; row = or_zero (Some r) })
+merge_jump (Some o) r = Some (record { order = Some o; row = or_zero r })
 
 -- what the resolution of SBx writes: self and row_jump
 pub record Resolved : Type 0 where
   pub self : PlayerState
-  pub row_jump : Jump
+  pub row_jump : Option Jump
 
 -- let remaining = match self.loop_count { None => { self.loop_count = Some(p); p } Some(n) => n.saturating_sub(1) };
-abbrev pub remaining : ℕ → ByteOption → ℕ
+abbrev pub remaining : ℕ → Option ℕ → ℕ
 remaining p None = p
 remaining p (Some n) = n - 1
 
 -- its write of self.loop_count
-abbrev pub arm_count : ℕ → PlayerState → ByteOption → PlayerState
+abbrev pub arm_count : ℕ → PlayerState → Option ℕ → PlayerState
 arm_count p s None = self_loop_count s (Some p)
 arm_count p s (Some n) = s
 
 -- if remaining > 0 { self.loop_count = Some(remaining); row_jump = Some(Jump { .. }); } else { self.loop_count = None; }
-unfoldable pub loop_back : ℕ → PlayerState → Jump → Resolved
+unfoldable pub loop_back : ℕ → PlayerState → Option Jump → Resolved
 loop_back n s j =
     pick (ltb 0 n)
-    (record { self = self_loop_count s (Some n); row_jump = To (Some s.order_index) s.loop_start_row })
+    (record { self = self_loop_count s (Some n); row_jump = Some (record { order = Some s.order_index; row = s.loop_start_row }) })
     (record { self = self_loop_count s None; row_jump = j })
 
 -- if let Some(p) = row_loop_request { if p == 0 { self.loop_start_row = self.row; } else { .. } }
-unfoldable pub resolve_loop : ByteOption → PlayerState → Jump → Resolved
+unfoldable pub resolve_loop : Option ℕ → PlayerState → Option Jump → Resolved
 resolve_loop None s j = record { self = s; row_jump = j }
 resolve_loop (Some p) s j =
     pick (eqb p 0) (record { self = self_loop_start_row s s.row; row_jump = j })
     (loop_back (remaining p s.loop_count) (arm_count p s s.loop_count) j)
 
 -- if let Some(s) = row_speed { self.speed = s; }
-abbrev pub set_speed : ByteOption → PlayerState → PlayerState
+abbrev pub set_speed : Option ℕ → PlayerState → PlayerState
 set_speed None s = s
 set_speed (Some x) s = self_speed s x
 
 -- if let Some(t) = row_tempo { self.bpm = t; }
-abbrev pub set_tempo : ByteOption → PlayerState → PlayerState
+abbrev pub set_tempo : Option ℕ → PlayerState → PlayerState
 set_tempo None s = s
 set_tempo (Some x) s = self_bpm s x
 
 -- if let Some(p) = row_pattern_delay { self.pattern_delay_remaining = p; }
-abbrev pub set_delay : ByteOption → PlayerState → PlayerState
+abbrev pub set_delay : Option ℕ → PlayerState → PlayerState
 set_delay None s = s
 set_delay (Some p) s = self_pattern_delay_remaining s p
 
 -- if row_jump.is_some() { self.pending_jump = row_jump; }
-abbrev pub set_jump : Jump → PlayerState → PlayerState
-set_jump Stay s = s
-set_jump (To o r) s = self_pending_jump s (To o r)
+abbrev pub set_jump : Option Jump → PlayerState → PlayerState
+set_jump None s = s
+set_jump (Some to) s = self_pending_jump s (Some to)
 
 -- the end of enter_row, behind its loop
 unfoldable pub conclude : Locals → PlayerState → PlayerState
@@ -432,7 +426,7 @@ abbrev pub row_of : Song → ℕ → ℕ → List Cell
 row_of m pattern row = get_or (get_or m.patterns pattern []) row []
 
 -- None => { self.ended = true; return; }; if pat_idx >= self.patterns.len() { self.ended = true; return; }
-unfoldable pub enter_at : Song → ByteOption → PlayerState → PlayerState
+unfoldable pub enter_at : Song → Option ℕ → PlayerState → PlayerState
 enter_at m None s = self_ended s true
 enter_at m (Some pattern) s =
     pick (leb (length m.patterns) pattern) (self_ended s true)
@@ -444,20 +438,15 @@ enter_row m s =
     let at : ℕ = order_from m.order 256 s.order_index in
     enter_at m (find_next_playable_order m.order at) (self_order_index s at)
 
--- self.pending_jump.is_none()
-abbrev pub is_none : Jump → Bool
-is_none Stay = true
-is_none (To o r) = false
-
 -- if let Some(order) = jump.order { order } else { self.order_index.saturating_add(1) }
-abbrev pub or_next : ByteOption → ℕ → ℕ
+abbrev pub or_next : Option ℕ → ℕ → ℕ
 or_next None at = one_more at
 or_next (Some o) at = o
 
 -- if let Some(jump) = self.pending_jump.take() { .. } else { self.row += 1; if self.row as usize >= PATTERN_ROWS { .. } }
-abbrev pub move_on : Jump → PlayerState → PlayerState
-move_on (To o r) s = self_row (self_order_index (self_pending_jump s Stay) (or_next o s.order_index)) r
-move_on Stay s =
+abbrev pub move_on : Option Jump → PlayerState → PlayerState
+move_on (Some to) s = self_row (self_order_index (self_pending_jump s None) (or_next to.order s.order_index)) to.row
+move_on None s =
     pick (leb PATTERN_ROWS (s.row + 1)) (self_order_index (self_row (self_row s (s.row + 1)) 0) (one_more s.order_index))
     (self_row s (s.row + 1))
 
@@ -466,7 +455,7 @@ unfoldable pub end_past : ℕ → PlayerState → PlayerState
 end_past n s = pick (leb n s.order_index) (self_ended s true) s
 
 -- 01: the waiting Vxx becomes the global volume at Leave
-abbrev pub take_volume : ByteOption → PlayerState → PlayerState
+abbrev pub take_volume : Option ℕ → PlayerState → PlayerState
 take_volume None s = s
 take_volume (Some v) s = self_pending_global_vol (self_global_volume s v) None
 

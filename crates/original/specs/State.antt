@@ -1,10 +1,9 @@
 -- The Rust's `PlayerState`: the fields that `enter_row` and `next_row` write, those that they only read, and the locals of `enter_row`.
--- `Option<u8>` is `ByteOption`; `Option<Jump>` is `Jump`, with `Stay` for `None`; `Channel` has the Rust's fields, some of them
+-- `Option<u8>` is `Option ℕ`; `Option<Jump>` is `Jump`, with `Stay` for `None`; `Channel` has the Rust's fields, some of them
 -- in groups, and a transposition that the Rust does not know. Assumes nothing.
-use Rattle.std.specs.Prelude.{ℕ, Bool, List}
+use Rattle.std.specs.Prelude.{ℕ, Bool, List, Option}
 use Rattle.tune.specs.declared.cells.Cell.{Cell}
 use Rattle.tune.specs.declared.samples.Sample.{Sample}
-use Rattle.row_path.specs.declared.option.ByteOption.{ByteOption}
 use Rattle.row_path.specs.declared.loops.Jump.{Jump}
 use Rattle.channel.specs.declared.state.Channel.{Channel}
 
@@ -26,21 +25,21 @@ pub record PlayerState : Type 0 where
   pub order_index : ℕ
   pub row : ℕ
   pub ended : Bool
-  pub pending_jump : Jump
+  pub pending_jump : Option Jump
   pub loop_start_row : ℕ
-  pub loop_count : ByteOption
-  pub loop_pattern_order : ByteOption
+  pub loop_count : Option ℕ
+  pub loop_pattern_order : Option ℕ
   pub pattern_delay_remaining : ℕ
   pub replaying_for_pattern_delay : Bool
-  pub pending_global_vol : ByteOption
+  pub pending_global_vol : Option ℕ
   pub strikes : ℕ
 
 -- what the pass over the channels writes beside a channel: the locals of `enter_row`, and `self.pending_global_vol`
 pub record Locals : Type 0 where
-  pub row_speed : ByteOption
-  pub row_tempo : ByteOption
-  pub jump_order : ByteOption
-  pub jump_row : ByteOption
-  pub row_loop_request : ByteOption
-  pub row_pattern_delay : ByteOption
-  pub pending_global_vol : ByteOption
+  pub row_speed : Option ℕ
+  pub row_tempo : Option ℕ
+  pub jump_order : Option ℕ
+  pub jump_row : Option ℕ
+  pub row_loop_request : Option ℕ
+  pub row_pattern_delay : Option ℕ
+  pub pending_global_vol : Option ℕ

@@ -1,22 +1,23 @@
 // A call of Section whose own promise is demand 2's claim: what `section` promises is enough for it.
 ghost use Rattle.std.specs.Prelude.{◌≡◌};
-ghost use Rattle.section.specs.Tables.{lent};
+ghost use Rattle.section.specs.Tables.{lent_by};
+ghost use Rattle.section.specs.Section.{answered};
 ghost use Rattle.original.specs.Untransposed.{Untransposed};
 ghost use Rattle.original.specs.Call.{AsOriginal};
 
-use section::state::{Sectioned, State};
+use section::state::{Progress, State};
 use section::walk::section;
+use tune::rules::Refusal;
+use tune::sizes::Tables;
 
 // Section; where it is not refused and no channel is transposed, as the original Rust. What Read gives is not transposed.
 pub fn section_as_original(
-    orders: &[u8],
-    cells: &[u8],
-    samples: &[u8],
+    tables: Tables,
     s: State,
     n: u32,
     output: &mut [u8],
-) -> Sectioned
-    ensures { result.refusal ≡ 0 → Untransposed s.channels → AsOriginal (lent orders.now cells.now samples.now) s n output.old output.new result }
+) -> Result<Progress, Refusal>
+    ensures { (answered s result).refusal ≡ 0 → Untransposed s.channels → AsOriginal (lent_by tables.entry) s n output.old output.new (answered s result) }
 {
-    section(orders, cells, samples, s, n, output)
+    section(tables, s, n, output)
 }

@@ -19,8 +19,8 @@ use Rattle.channel.specs.LevelLimits.{Levels}
 use Rattle.channel.specs.Opening.{opened_channel}
 use Rattle.channel.proofs.Levelled.{entered_levels}
 use Rattle.section.specs.declared.state.State.{State}
-use Rattle.section.specs.declared.state.Opened.{Opened}
-use Rattle.section.specs.declared.state.Sectioned.{Sectioned}
+use Rattle.section.specs.Open.{Opened}
+use Rattle.section.specs.Section.{Sectioned}
 use Rattle.section.specs.Tables.{Tables, tables_rule}
 use Rattle.section.specs.Typed.{ShapedOpening}
 use Rattle.section.specs.Open.{fresh_state, open_rule, open_of}

@@ -4,6 +4,7 @@ pub mod Levelled
 pub mod Answers
 pub mod Counts
 pub mod Fields
+pub mod Lists
 pub mod Nans
 pub mod Ready
 pub mod Rounds

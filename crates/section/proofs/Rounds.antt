@@ -24,7 +24,7 @@ use Rattle.channel.specs.declared.state.Channel.{Channel}
 use Rattle.channel.specs.declared.state.Switches.{Switches}
 use Rattle.channel.proofs.Numbered.{Numbered}
 use Rattle.section.specs.declared.state.State.{State}
-use Rattle.section.specs.declared.state.Sectioned.{Sectioned}
+use Rattle.section.specs.Section.{Sectioned}
 use Rattle.section.specs.Tables.{Tables}
 use Rattle.section.specs.Records.{record_bytes}
 use Rattle.section.specs.Machines.{Voices, row_played, record_of, voices_after}
@@ -221,9 +221,10 @@ module _ {t : Tables} {n : ℕ} {out₀ : List ℕ} {s₀ : State} where
         ∙ ap (λ (z : Entered). record { records = []; state = state_with s z.path (voices_of s) }) (sym q)) g
 
     -- n rows are out
-    pub round_full : (r : Sectioned) → n ≤ rows → r ≡ record { refusal = 0; rows = rows; ended = s.path.ended; state = s }
+    pub round_full : (r : Sectioned) → n ≤ rows → r ≡ record { refusal = 0; rows = n; ended = s.path.ended; state = s }
         → (r ≡ sectioned (gave (walk t n s₀))) × (out ≡ output_after out₀ (gave (walk t n s₀)))
     unfolding walk
     round_full r l g =
         let m : n - rows ≡ 0 = omega arith in
-        ends s r (ap (λ (k : ℕ). walk t k s) m) g
+        let e : n ≡ rows = omega (arith, I.some) in
+        ends s r (ap (λ (k : ℕ). walk t k s) m) (g ∙ (λ j. record { refusal = 0; rows = e j; ended = s.path.ended; state = s }))

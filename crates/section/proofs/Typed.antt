@@ -18,7 +18,8 @@ use Rattle.tune.specs.contracts.opening.ChannelOpening as channel_opening
 use Rattle.tune.specs.Numbers.{Bytes}
 use Rattle.channel.specs.declared.state.Channel.{Channel}
 use Rattle.channel.specs.contracts.state.Channel as channel
-use Rattle.section.specs.Typed.{ShapedChannel, Shaped, ShapedOpening}
+use Rattle.section.specs.Tables.{Tables}
+use Rattle.section.specs.Typed.{ShapedChannel, Shaped, ShapedOpening, ByteTables}
 use Rattle.section.specs.declared.state.State.{State}
 use Rattle.section.specs.contracts.state.State as state
 
@@ -73,3 +74,8 @@ opening_typed o vs h =
       speed = let b : o.speed < 256 = h.1.1.0.1 in omega arith;
       channels = (array_typed channel_opening.the_row 32 (λ c. Unit) (λ c us g. tt) o.channels _ h.1.1.1.1.1.1.1.1.0).0;
     }
+
+-- what Open presupposes, from what is told of its tables' bytes and of its parameters by value
+pub tune_typed : (t : Tables) (o : Opening) (vs : List Val) → Bytes t.cells × Bytes t.samples → shadow ((opening.the_row).own_val o vs)
+    → ByteTables t × ShapedOpening o
+tune_typed t o vs b h = (record { cells = b.0; samples = b.1 }, opening_typed o vs h)

@@ -1,9 +1,8 @@
 -- Calls of Section that were made: what they gave back and what they wrote (01, 'Section'). Assumes nothing.
 use Rattle.std.specs.Prelude.{ℕ, ◌≡◌, List, [], ◌∷◌, length}
 use Rattle.section.specs.declared.state.State.{State}
-use Rattle.section.specs.declared.state.Sectioned.{Sectioned}
 use Rattle.section.specs.Tables.{Tables}
-use Rattle.section.specs.Section.{Answer, section_of, sectioned, output_after}
+use Rattle.section.specs.Section.{Answer, Sectioned, section_of, sectioned, output_after}
 
 -- a call of Section that was made: its size n, its output before and after it, and what it gave back (01, 'Section')
 pub record Made : Type 0 where

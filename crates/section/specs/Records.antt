@@ -1,16 +1,15 @@
 -- A record's 536 bytes (01, 'Section, second part', Record). Assumes nothing.
-use Rattle.std.specs.Prelude.{ℕ, ◌+◌, ◌*◌, List, [], ◌∷◌, ◌++◌}
+use Rattle.std.specs.Prelude.{ℕ, ◌+◌, ◌*◌, List, [], ◌∷◌, ◌++◌, None, Option, Some}
 use Rattle.std.specs.Float.{binary32}
 use Rattle.std.specs.Float.Ieee.{to_bits}
 use Rattle.tune.specs.Numbers.{bytes_of, flag}
 use Rattle.row_path.specs.Card.{length_of}
 use Rattle.row_path.specs.declared.machine.Entered.{Entered}
 use Rattle.channel.specs.declared.state.Channel.{Channel}
-use Rattle.channel.specs.declared.state.TriggerOption.{TriggerOption}
-use Rattle.channel.specs.declared.state.TriggerOption.TheVariants.{None, Some}
+use Rattle.channel.specs.declared.state.PendingTrigger.{PendingTrigger}
 
 -- delay tick (0 none)
-abbrev pub delay_tick : TriggerOption → ℕ
+abbrev pub delay_tick : Option PendingTrigger → ℕ
 delay_tick None = 0
 delay_tick (Some t) = t.fire_tick
 

@@ -1,15 +1,17 @@
 -- Section (01, 'Section' and rules 9, 11 and 12; 02, rule 17). Assumes nothing.
-use Rattle.std.specs.Prelude.{ℕ, zero, suc, ◌*◌, ◌^◌, Bool, false, ◌||◌, not, List, [], ◌∷◌, ◌++◌, eqb, ltb, leb, length, drop}
+use Rattle.std.specs.Prelude.{ℕ, zero, suc, ◌*◌, ◌^◌, Bool, false, ◌||◌, not, List, [], ◌∷◌, ◌++◌, eqb, ltb, leb, length, drop, Result, Ok, Err}
 use Rattle.std.specs.Float.Ieee.{is_nan}
 use Rattle.laws.specs.Entries.{every}
 use Rattle.laws.specs.Refusals.{refuse, or_else}
 use Rattle.tune.specs.Transposition.{beyond24}
 use Rattle.tune.specs.Opening.{rate_broken}
+use Rattle.tune.specs.Rules.{number_of}
+use Rattle.tune.specs.declared.rules.Refusal.{Refusal}
 use Rattle.row_path.specs.declared.machine.Path.{Path}
 use Rattle.channel.specs.LevelLimits.{level_above}
 use Rattle.channel.specs.declared.state.Channel.{Channel}
 use Rattle.section.specs.declared.state.State.{State}
-use Rattle.section.specs.declared.state.Sectioned.{Sectioned}
+use Rattle.section.specs.declared.state.Progress.{Progress}
 use Rattle.section.specs.Tables.{Tables, tables_rule}
 use Rattle.section.specs.Records.{record_size}
 use Rattle.section.specs.Walk.{Walked, walk}
@@ -56,10 +58,22 @@ answer_by (suc r) s w = Refused (suc r) s
 unfoldable pub section_of : Tables → State → ℕ → ℕ → Answer
 section_of t s n room = answer_by (section_rule t s n room) s (walk t n s)
 
+-- what Section gives: 0, the rows written, whether the tune has ended, and the state; or a rule's number and the state that it got
+pub record Sectioned : Type 0 where
+  pub refusal : ℕ
+  pub rows : ℕ
+  pub ended : Bool
+  pub state : State
+
 -- the answer in numbers: a refusal is its number alone with the state
 unfoldable pub sectioned : Answer → Sectioned
 sectioned (Refused r s) = record { refusal = r; rows = 0; ended = false; state = s }
 sectioned (Gave records ended s) = record { refusal = 0; rows = length records; ended = ended; state = s }
+
+-- so is a call's, on the state that it got
+abbrev pub answered : State → Result Progress Refusal → Sectioned
+answered s (Ok p) = record { refusal = 0; rows = p.rows; ended = p.ended; state = p.state }
+answered s (Err r) = record { refusal = number_of r; rows = 0; ended = false; state = s }
 
 -- lists one behind the other
 unfoldable pub joined : {X : Type 0} → List (List X) → List X

@@ -3,17 +3,16 @@ ghost use Rattle.std.specs.Prelude.{◌≡◌, not, ◌++◌, ◌+◌, ◌≤◌
 ghost use Rattle.std.specs.Float.Ieee.{is_nan};
 ghost use Rattle.section.specs.Records.{delay_tick, row_head, channel_bytes};
 
-use channel::state::{Channel, TriggerOption};
+use channel::state::{Channel, PendingTrigger};
 use row_path::machine::{Entered, row_length};
-use tune::numbers::{flag_of, u32_bytes, u64_bytes};
 use tune::parts::put_at;
 
-fn delay_tick(t: TriggerOption) -> u8
+fn delay_tick(t: Option<PendingTrigger>) -> u8
     ensures { result ≡ delay_tick t }
 {
     match t {
-        TriggerOption::None => 0,
-        TriggerOption::Some(p) => p.fire_tick,
+        None => 0,
+        Some(p) => p.fire_tick,
     }
 }
 
@@ -23,14 +22,14 @@ fn head_bytes(e: Entered, global: u8, strikes: u32) -> [u8; 24]
     ensures { result ≡ row_head e global strikes }
 {
     let clock = e.path.clock;
-    let s = u64_bytes(clock.start);
-    let m = u32_bytes(strikes);
-    let l = u32_bytes(row_length(clock));
+    let s = clock.start.to_le_bytes();
+    let m = strikes.to_le_bytes();
+    let l = row_length(clock).to_le_bytes();
     [
         e.path.place.order,
         e.pattern,
         e.path.place.row,
-        flag_of(e.path.hold.held),
+        u8::from(e.path.hold.held),
         clock.speed,
         clock.tempo,
         global,
@@ -60,8 +59,8 @@ fn channel_bytes(c: Channel) -> [u8; 16]
     ensures { result ≡ channel_bytes c }
 {
     let delay = c.pending_delay;
-    let f = u32_bytes(f32::to_bits(c.frequency));
-    let t = u32_bytes(f32::to_bits(c.target_frequency));
+    let f = f32::to_bits(c.frequency).to_le_bytes();
+    let t = f32::to_bits(c.target_frequency).to_le_bytes();
     [
         f[0],
         f[1],
@@ -74,7 +73,7 @@ fn channel_bytes(c: Channel) -> [u8; 16]
         c.instrument,
         c.volume,
         c.pan,
-        flag_of(c.active),
+        u8::from(c.active),
         c.last_note,
         delay_tick(delay),
         c.voice_global_vol,

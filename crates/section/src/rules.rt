@@ -1,20 +1,24 @@
-// Rules 9, 11, 17 and 12.
+// Rules 9 and 10, and 9, 11, 17 and 12.
 ghost use Rattle.std.specs.Prelude.{◌≡◌, not};
-ghost use Rattle.laws.specs.Choice.{pick};
 ghost use Rattle.laws.specs.Entries.{every};
 ghost use Rattle.channel.specs.LevelLimits.{level_above};
-ghost use Rattle.section.specs.Tables.{lent};
+ghost use Rattle.tune.specs.Numbers.{Bytes};
+ghost use Rattle.tune.specs.Rules.{verdict};
+ghost use Rattle.section.specs.Tables.{lent_by};
+ghost use Rattle.section.specs.Typed.{ByteTables, Shaped, ShapedOpening};
+ghost use Rattle.section.specs.Open.{open_rule};
 ghost use Rattle.section.specs.Section.{path_broken, channel_broken, state_rule, levels_rule, room_rule, section_rule};
 
 use crate::state::State;
 use channel::levels::volume_limit;
 use channel::state::Channel;
 use row_path::machine::Path;
-use tune::opening::rate_broken;
-use tune::refusals::{first_of, refusal};
-use tune::sizes::sizes_rule;
+use tune::opening::{Opening, check_opening, rate_broken};
+use tune::rules::{Refusal, refuse_if};
+use tune::sizes::{Tables, check_sizes};
 use tune::transposition::is_beyond_24;
 
+#[tactic(auto, unfolding(crate::specs::Section::path_broken))]
 fn path_broken(p: Path) -> bool
     ensures { result ≡ path_broken p }
 {
@@ -27,84 +31,79 @@ fn path_broken(p: Path) -> bool
         | (2 * (p.clock.tempo as u16) <= p.clock.remainder)
 }
 
-fn channel_broken(c: Channel) -> bool
-    ensures { result ≡ channel_broken c }
+#[tactic(auto, unfolding(crate::specs::Section::channel_broken))]
+fn channel_broken(c: &Channel) -> bool
+    ensures { result ≡ channel_broken c.now }
 {
-    let fixed = c.fixed;
     (c.frequency != c.frequency)
         | (c.target_frequency != c.target_frequency)
-        | is_beyond_24(fixed.transposition)
+        | is_beyond_24(c.fixed.transposition)
 }
 
-fn level_above(c: Channel) -> bool
-    ensures { result ≡ level_above c }
+#[tactic(auto, unfolding(channel::specs::LevelLimits::level_above))]
+fn level_above(c: &Channel) -> bool
+    ensures { result ≡ level_above c.now }
 {
-    let fixed = c.fixed;
-    (volume_limit(fixed.adlib) < c.volume) | (15 < c.pan)
+    (volume_limit(c.fixed.adlib) < c.volume) | (15 < c.pan)
 }
 
-// Whether a channel's levels break rule 17, or else whether the channel breaks rule 11.
-fn channel_refused(c: Channel, levels: bool) -> bool
-    ensures { result ≡ pick levels (level_above c) (channel_broken c) }
+// Rule 11: the state is none that a section can go on from.
+#[tactic(auto, unfolding(crate::specs::Section::state_rule))]
+fn check_state(s: State) -> Result<(), Refusal>
+    ensures { verdict result ≡ state_rule s }
 {
-    if levels {
-        return level_above(c);
-    }
-    channel_broken(c)
+    let broken = path_broken(s.path) | !s.channels.iter().all(|c| !channel_broken(c));
+    refuse_if(broken, Refusal::State)
 }
 
-fn channels_kept(channels: [Channel; 32], levels: bool) -> bool
-    ensures { result ≡ every (λ i c. not (pick levels (level_above c) (channel_broken c))) 0 channels }
+// Rule 17: a channel's level cannot be real.
+#[tactic(auto, unfolding(crate::specs::Section::levels_rule))]
+fn check_levels(s: State) -> Result<(), Refusal>
+    ensures { verdict result ≡ levels_rule s }
 {
-    let mut i: usize = 0;
-    while i < 32 {
-        let c = channels[i];
-        if channel_refused(c, levels) {
-            return false;
-        }
-        i += 1;
-    }
-    true
+    let kept = s.channels.iter().all(|c| !level_above(c));
+    refuse_if(!kept, Refusal::ChannelLevels)
 }
 
-// 11 where the state is none that a section can go on from, else 0.
-fn state_rule(s: State) -> u8
-    ensures { result ≡ state_rule s }
+// Rule 12: n is too large or the output too short.
+#[tactic(auto, unfolding(crate::specs::Section::room_rule))]
+fn check_room(n: u32, room: usize) -> Result<(), Refusal>
+    ensures { verdict result ≡ room_rule n room }
 {
-    let path = s.path;
-    let channels = s.channels;
-    refusal(11, path_broken(path) | !channels_kept(channels, false))
+    refuse_if((65535 < n) | (room < 536 * (n as usize)), Refusal::Room)
 }
 
-// 17 where a channel's level cannot be real, else 0.
-fn levels_rule(s: State) -> u8
-    ensures { result ≡ levels_rule s }
+// Does nothing: its promise is what the types of two lent parts say, from which the calls on a tune have `typed`.
+fn tell_bytes(cells: &[u8], samples: &[u8])
+    ensures { Bytes cells.now × Bytes samples.now }
+{}
+
+// The same of a state.
+fn tell_shape(s: State)
+    ensures { Shaped s }
+{}
+
+// The first of rules 9 and 10 that is broken. `typed` has what the theorems on a tune presuppose.
+#[tactic(auto, using(tune::proofs::Checks::refused, tune::proofs::Checks::passed, crate::proofs::Typed::tune_typed), unfolding(crate::specs::Open::open_rule))]
+pub fn check_open(tables: Tables, o: Opening) -> Result<(), Refusal>
+    ensures answer { verdict result ≡ open_rule (lent_by tables.entry) o }
+    ensures typed { ByteTables (lent_by tables.entry) × ShapedOpening o }
 {
-    let channels = s.channels;
-    refusal(17, !channels_kept(channels, true))
+    tell_bytes(tables.cells, tables.samples);
+    check_sizes(tables)?;
+    check_opening(o)
 }
 
-// 12 where n is too large or the output too short, else 0.
-fn room_rule(n: u32, room: usize) -> u8
-    ensures { result ≡ room_rule n room }
+// The first of rules 9, 11, 17 and 12 that is broken. `typed` has what the theorems on a call presuppose.
+#[tactic(auto, using(tune::proofs::Checks::refused, tune::proofs::Checks::passed), unfolding(crate::specs::Section::section_rule))]
+pub fn check_section(tables: Tables, s: State, n: u32, room: usize) -> Result<(), Refusal>
+    ensures answer { verdict result ≡ section_rule (lent_by tables.entry) s n room }
+    ensures typed { ByteTables (lent_by tables.entry) × Shaped s }
 {
-    refusal(12, (65535 < n) | (room < 536 * (n as usize)))
-}
-
-// The first of rules 9, 11, 17 and 12 that is broken, else 0.
-pub fn section_rule(
-    orders: &[u8],
-    cells: &[u8],
-    samples: &[u8],
-    s: State,
-    n: u32,
-    room: usize,
-) -> u8
-    ensures { result ≡ section_rule (lent orders.now cells.now samples.now) s n room }
-{
-    let sizes = sizes_rule(orders, cells, samples);
-    let state = state_rule(s);
-    let levels = levels_rule(s);
-    let rows = room_rule(n, room);
-    first_of(sizes, first_of(state, first_of(levels, rows)))
+    tell_bytes(tables.cells, tables.samples);
+    tell_shape(s);
+    check_sizes(tables)?;
+    check_state(s)?;
+    check_levels(s)?;
+    check_room(n, room)
 }

@@ -10,18 +10,9 @@ pub struct State {
     pub switches: Switches,
 }
 
-// Open's answer: 0 and the fresh state, or a rule's number and the blank state.
+// What Section gives: the rows written, whether the tune has ended, and the state behind them.
 #[derive(Clone, Copy)]
-pub struct Opened {
-    pub refusal: u8,
-    pub state: State,
-}
-
-// Section's answer: 0, the rows written, whether the tune has ended, and the state; or a rule's number and the state
-// that it was given.
-#[derive(Clone, Copy)]
-pub struct Sectioned {
-    pub refusal: u8,
+pub struct Progress {
     pub rows: u32,
     pub ended: bool,
     pub state: State,

@@ -1,20 +1,18 @@
 -- `closed::answer::open_closed` meets its contract. Assumes nothing.
-use mathlib.Core.Path.{◌∙◌}
-use Rattle.section.specs.Tables.{lent}
-use Rattle.closed.proofs.Answered.{open_sized, opens_refused, opens_by_14, opened_ends}
+use mathlib.Core.Path.{subst⁻¹}
+use borrow.Author.Rules.{rules}
+use Rattle.section.specs.Tables.{lent_by}
+use Rattle.closed.specs.Ends.{most_rows, EndsWithin}
+use Rattle.closed.proofs.Answered.{opens_refused, rule_kept, fresh_ends}
 use Rattle.closed.proofs.answer.open_closed.Goals as goal
 
-pub returns-then-rule-ne0 : goal.returns-then-rule-ne0
-returns-then-rule-ne0 c =
-    let rule = c.open_rule-rule.ensures in
-    let answer = c.opened_by.ensures ∙ opens_refused (lent _ _ _) _ _ rule.answer c.if-rule-ne0.true in
-    record { answer = answer; typed = rule.typed; ends = opened_ends (lent _ _ _) _ answer }
+pub returns-in_err-check_open-clause-answer : goal.returns-in_err-check_open-clause-answer
+returns-in_err-check_open-clause-answer c =
+    opens_refused (lent_by c.args.tables) c.args.o c.check_open.result _ c.from_residual.result c.in_err-check_open.was (search rules) c.check_open.ensures.answer
 
-pub tables_closed-requires : goal.tables_closed-requires
-tables_closed-requires c = open_sized (lent _ _ _) _ _ c.open_rule-rule.ensures.answer c.if-rule-ne0.false
-
-pub returns : goal.returns
-returns c =
-    let rule = c.open_rule-rule.ensures in
-    let answer = c.opened_by-2.ensures ∙ opens_by_14 (lent _ _ _) _ _ _ _ rule.answer c.if-rule-ne0.false c.tables_closed.ensures c.refusal.ensures in
-    record { answer = answer; typed = rule.typed; ends = opened_ends (lent _ _ _) _ answer }
+pub returns-clause-ends : goal.returns-clause-ends
+returns-clause-ends c =
+    let t = lent_by c.args.tables in
+    let rule = rule_kept t c.args.o c.check_open.result _ c.refuse_if.result _ c.tables_closed.result c.in_ok-check_open.was c.check_open.ensures.answer
+    c.in_ok-refuse_if.was c.refuse_if.ensures c.tables_closed.ensures in
+    λ z. subst⁻¹ (EndsWithin (most_rows t) t) c.fresh_state.ensures (fresh_ends t c.args.o rule)

@@ -1,10 +1,9 @@
 -- `closed::working::pattern_breaks` meets its contract. Assumes nothing.
-use Prim.Native.Nat.{◌-◌}
-use Rattle.closed.proofs.Rounds.{Rows}
+use mathlib.Core.Path.{◌≡◌}
+use Rattle.laws.specs.Entries.{some, how_many}
+use Rattle.closed.specs.Closed.{loops}
+use Rattle.closed.proofs.Rounds.{broken_row}
 use Rattle.closed.proofs.working.pattern_breaks.Given as goal
 
 abbrev pub invariant-loop-row : goal.invariant-loop-row
-invariant-loop-row l = Rows l.cells l.pattern l.after l.row l.breaks l.loops
-
-abbrev pub decreases-loop-row : goal.decreases-loop-row
-decreases-loop-row l = 64 - l.row
+invariant-loop-row l = (l.breaks ≡ some l.row (broken_row l.cells l.pattern l.after)) × (l.loops ≡ how_many l.row (loops l.cells l.pattern))

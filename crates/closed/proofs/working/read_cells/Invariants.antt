@@ -1,10 +1,8 @@
 -- `closed::working::read_cells` meets its contract. Assumes nothing.
-use Prim.Native.Nat.{◌-◌}
-use Rattle.closed.proofs.Rounds.{Channels}
+use mathlib.Core.Path.{◌≡◌}
+use Rattle.closed.specs.Closed.{last_loop}
+use Rattle.closed.specs.Working.{row_breaks}
 use Rattle.closed.proofs.working.read_cells.Given as goal
 
 abbrev pub invariant-loop-channel : goal.invariant-loop-channel
-invariant-loop-channel l = Channels l.row l.after l.channel l.read.breaks l.read.p
-
-abbrev pub decreases-loop-channel : goal.decreases-loop-channel
-decreases-loop-channel l = 32 - l.channel
+invariant-loop-channel l = (l.read.breaks ≡ row_breaks l.after l.row l.channel) × (l.read.p ≡ last_loop l.row l.channel)

@@ -2,7 +2,6 @@
 use Prim.Native.Nat.{ℕ, ◌+◌, ◌*◌, ◌<◌}
 use mathlib.Core.Path.{ap, ◌∙◌}
 use mathlib.Core.Bool.{◌&&◌}
-use native.Mathlib.Omega.{arith}
 use lib.Dec.{eqb}
 use lib.ListN.{get_or}
 use Rattle.tune.proofs.Little.{four}
@@ -16,6 +15,6 @@ unfolding quiet cell_of
 returns c =
     let row = c.args.row.now in
     let at = c.args.i * 5 in
-    let byte : (k : ℕ) → get_or row k 0 < 256 = λ k. omega (arith, c.shared_slice_known-2-1.given k) in
+    let byte : (k : ℕ) → get_or row k 0 < 256 = c.fits-row in
     ap (λ (x : ℕ). eqb x 16711935 && eqb (get_or row (at + 4) 0) 0) (c.u32_at.ensures ∙ four row at)
     ∙ quiet_word (get_or row at 0) (get_or row (at + 1) 0) (get_or row (at + 2) 0) (get_or row (at + 3) 0) (get_or row (at + 4) 0) (byte at) (byte (at + 1)) (byte (at + 2)) (byte (at + 3))
