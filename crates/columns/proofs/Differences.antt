@@ -1,5 +1,5 @@
 -- Differences and sums undo each other, and are worked out byte by byte. Assumes nothing.
-use Rattle.std.proofs.Common.{◌≡◌, ℕ, zero, suc, ◌+◌, ◌-◌, ◌<◌, ◌≤◌, refl, ap, ◌∙◌, mod-lt, add-one, arith}
+use Rattle.std.proofs.Common.{◌≡◌, ℕ, zero, suc, ◌+◌, ◌-◌, ◌<◌, ◌≤◌, refl, ap, ◌∙◌, mod-lt, arith}
 use Rattle.columns.specs.Columns.{difference, sum, differences, sums}
 use Rattle.columns.specs.Places.{prior}
 
@@ -17,10 +17,6 @@ sum_first : (d : ℕ) → d < 256 → sum 0 d ≡ d
 sum_first d h = omega arith
 
 module _ (f : ℕ → ℕ) where
-  pub prior_next : (r : ℕ) → f r ≡ prior f (r + 1)
-  unfolding prior
-  prior_next r = rw add-one
-
   pub prior_first : (r : ℕ) → r ≡ 0 → 0 ≡ prior f r
   unfolding prior
   prior_first r e = rw e

@@ -1,11 +1,12 @@
 -- What rule 16 settles, and what a call then says and leaves. Assumes nothing.
-use Rattle.std.proofs.Common.{◌≡◌, ℕ, ◌*◌, ◌≤◌, Bool, true, false, not, eqb, ltb, List, length, sym, refl, ap, ◌∙◌, arith, ltb-false, le-ltb, eq-eqb, ne_eqb, eqb-true}
+use Rattle.std.proofs.Common.{◌≡◌, ℕ, ◌*◌, ◌≤◌, Result, Ok, Err, not, eqb, ltb, List, length, sym, ◌∙◌, ltb-false, eqb-true}
 use borrow.Author.Tests.{not-false}
-use Rattle.laws.specs.Refusals.{refuse, said}
 use Rattle.laws.proofs.Rules.{kept, not_zero}
 use Rattle.laws.proofs.Picks.{or_false, pick_equal, pick_unequal}
-use Rattle.columns.specs.Answers.{sizes_broken, sizes_rule, stored_says, columns_say, output_by}
-use Rattle.columns.specs.declared.rule.Stored.TheVariants.{Done, Refused}
+use Rattle.columns.specs.Answers.{sizes_rule, output_by}
+use Rattle.tune.specs.declared.rules.Refusal.{Refusal}
+use Rattle.tune.specs.Rules.{number_of, verdict}
+use Rattle.tune.proofs.Checks.{number_more}
 
 -- sizes that are not refused
 pub record Fit (m input output : ℕ) : Type 0 where
@@ -27,34 +28,20 @@ fit m input output e =
       taken = eqb-true output (m * 536) (not-false (eqb output (m * 536)) c.1);
     }
 
--- and sizes that fit are not; others are
-pub fit_taken : (m input output : ℕ) → Fit m input output → 0 ≡ sizes_rule m input output
-unfolding sizes_rule
-fit_taken m input output f =
-    simp (ne_eqb m 0 (λ e. let s = f.some in absurd (omega arith)), le-ltb 65535 m f.most, eq-eqb input (m * 536) f.given, eq-eqb output (m * 536) f.taken)
-
-pub unfit : (m input output : ℕ) → (Fit m input output → ⊥) → 16 ≡ sizes_rule m input output
-unfolding sizes_rule
-unfit m input output h = by (sizes_broken m input output) (λ e. h (fit m input output (ap (refuse 16) e)))
-  where
-    by : (b : Bool) → (b ≡ false → ⊥) → 16 ≡ refuse 16 b
-    by true g = refl
-    by false g = absurd (g refl)
+pub checked : (m input output : ℕ) (x : Result Unit Refusal) (y : Unit) → x ≡ Ok y → verdict x ≡ sizes_rule m input output → Fit m input output
+checked m input output x y e v = fit m input output (cc)
 
 module _ (f : List ℕ → ℕ → List ℕ) (input : List ℕ) (m : ℕ) (output : List ℕ) where
   abbrev rule : ℕ
   rule = sizes_rule m (length input) (length output)
 
-  -- r is what the code's rule said
-  pub call_refused : (r : ℕ) → r ≡ rule → (r ≡ 0 → ⊥) → (stored_says (Refused r) ≡ columns_say input m output) × (output ≡ output_by f input m output)
-  call_refused r e h =
-      let n : rule ≡ 0 → ⊥ = λ z. h (e ∙ z) in
-      (rw e (says n), sym (pick_unequal rule 0 (f input m) output n))
-    where
-      says : (rule ≡ 0 → ⊥) → stored_says (Refused rule) ≡ said rule tt
-      says n = rw (ne_eqb rule 0 n)
+  -- x is what the check said
+  pub left_alone : (x : Result Unit Refusal) (r : Refusal) → x ≡ Err r → verdict x ≡ rule → output ≡ output_by f input m output
+  left_alone x r e v =
+      let n : number_of r ≡ rule = cc in
+      sym (pick_unequal rule 0 (f input m) output (λ z. number_more r (n ∙ z)))
 
-  pub call_done : (r : ℕ) {after : List ℕ} → r ≡ rule → r ≡ 0 → after ≡ f input m → (stored_says Done ≡ columns_say input m output) × (after ≡ output_by f input m output)
-  call_done r e z g =
-      let n : rule ≡ 0 = sym e ∙ z in
-      (rw n refl, g ∙ sym (pick_equal rule 0 (f input m) output n))
+  pub all_written : (x : Result Unit Refusal) (y : Unit) {after : List ℕ} → x ≡ Ok y → verdict x ≡ rule → after ≡ f input m → after ≡ output_by f input m output
+  all_written x y e v g =
+      let n : rule ≡ 0 = cc in
+      g ∙ sym (pick_equal rule 0 (f input m) output n)

@@ -16,10 +16,6 @@ columns_fit m c s l e h i k b =
     let g = in_column m c s k 15 in
     omega arith
 
--- and 16 rows of 8 bytes of records
-pub records_fit : (m c s : ℕ) (l : List ℕ) → length l ≡ m * 536 → c + 8 ≤ 536 → s + 16 ≤ m → RowsFit 16 8 (s * 536 + c) 536 l
-records_fit m c s l e h i k b = omega arith
-
 module _ (m c s : ℕ) (first : 1 ≤ s) (h : c + 8 ≤ 536) (i : s + 16 ≤ m) where
   -- differences, in columns, put
   module _ (records t u before after : List ℕ) where

@@ -1,5 +1,5 @@
 -- Both identities on the calls: what one call wrote, handed to the other, gives back the bytes. Assumes nothing.
-use Rattle.std.proofs.Common.{◌≡◌, ℕ, zero, suc, ◌*◌, eqb, List, length, sym, ap, ◌∙◌, subst}
+use Rattle.std.proofs.Common.{◌≡◌, ℕ, Result, Ok, Err, zero, suc, ◌*◌, eqb, List, length, sym, ap, ◌∙◌, subst}
 use mathlib.Core.Option.{Option, none, some}
 use lib.Dec.{eqb-suc-zero}
 use Rattle.laws.specs.Refusals.{or_else, Said, said}
@@ -7,11 +7,11 @@ use Rattle.laws.specs.Choice.{pick}
 use Rattle.laws.proofs.Picks.{pick_equal}
 use Rattle.laws.proofs.Rules.{next}
 use Rattle.tune.specs.Numbers.{Bytes}
+use Rattle.tune.specs.Rules.{says}
+use Rattle.tune.specs.declared.rules.Refusal.{Refusal}
 use Rattle.columns.specs.Columns.{stored, restored}
-use Rattle.columns.specs.Answers.{sizes_rule, stored_says, columns_say, output_by, store_output, restore_output}
+use Rattle.columns.specs.Answers.{sizes_rule, columns_say, output_by, store_output, restore_output}
 use Rattle.columns.specs.Trips.{trip_rule, trip_says, trip_output, Leaves, BackAgain}
-use Rattle.columns.specs.declared.rule.Stored.{Stored}
-use Rattle.columns.specs.declared.rule.Stored.TheVariants.{Done, Refused}
 use Rattle.columns.proofs.Inverse.{length-stored, length-restored, restore_after_store, store_after_restore}
 use Rattle.columns.proofs.Sizes.{fit}
 
@@ -43,18 +43,20 @@ IsNone (some x) = ⊥
 
 -- the two calls as they were made: s, and t where s was not refused, are what they answered; mid and after what they left
 module _ (input : List ℕ) (m : ℕ) (between back : List ℕ) where
-  pub trip_done : (one two : Leaves) → BackAgain one two → Bytes input → (s t : Stored) {mid after : List ℕ} → s ≡ Done → stored_says s ≡ columns_say input m between → mid ≡ one input m between
-      → stored_says t ≡ columns_say mid m back → after ≡ two mid m back → (stored_says t ≡ trip_says input m between back) × (after ≡ trip_output input m between back)
+  pub trip_done : (one two : Leaves) → BackAgain one two → Bytes input → (s t : Result Unit Refusal) {y : Unit} {mid after : List ℕ} → s ≡ Ok y → says s ≡ columns_say input m between → mid ≡ one input m between
+      → says t ≡ columns_say mid m back → after ≡ two mid m back → (says t ≡ trip_says input m between back) × (after ≡ trip_output input m between back)
   trip_done one two b bytes s t d e w f x =
-      let z : 0 ≡ sizes_rule m (length input) (length between) = ap (λ (y : Said Unit). y.number) (ap stored_says (sym d) ∙ e) in
+      let z : 0 ≡ sizes_rule m (length input) (length between) = ap (λ (y : Said Unit). y.number) (ap says (sym d) ∙ e) in
       let r = b input m between back bytes (sym z) in
       (f ∙ ap (λ l. columns_say l m back) w ∙ r.0, x ∙ ap (λ l. two l m back) w ∙ r.1)
 
-  pub trip_refused : (n : ℕ) (s : Stored) → s ≡ Refused n → stored_says s ≡ columns_say input m between → (stored_says (Refused n) ≡ trip_says input m between back) × (back ≡ trip_output input m between back)
+  pub trip_refused : (n : Refusal) (s t : Result Unit Refusal) → s ≡ Err n → t ≡ Err n → says s ≡ columns_say input m between → (says t ≡ trip_says input m between back) × (back ≡ trip_output input m between back)
   unfolding or_else
-  trip_refused n s d e = by (sizes_rule m (length input) (length between)) (ap stored_says (sym d) ∙ e)
+  trip_refused n s t d same e =
+      let w = by (sizes_rule m (length input) (length between)) (ap says (sym d) ∙ e) in
+      (ap says same ∙ w.0, w.1)
     where
-      by : (r : ℕ) → stored_says (Refused n) ≡ said r tt
-          → (stored_says (Refused n) ≡ said (or_else r (sizes_rule m (length input) (length back))) tt) × (back ≡ pick (eqb (or_else r (sizes_rule m (length input) (length back))) 0) input back)
+      by : (r : ℕ) → says {A = Unit} (Err n) ≡ said r tt
+          → (says {A = Unit} (Err n) ≡ said (or_else r (sizes_rule m (length input) (length back))) tt) × (back ≡ pick (eqb (or_else r (sizes_rule m (length input) (length back))) 0) input back)
       by zero f = absurd (subst IsNone (ap (λ (y : Said Unit). y.values) f) tt)
       by (suc r) f = (f, rw eqb-suc-zero)

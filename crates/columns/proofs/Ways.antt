@@ -1,5 +1,5 @@
 -- The two ways of the loops: what belongs at the place of a byte, and when the whole output is made. Assumes nothing.
-use Rattle.std.proofs.Common.{◌≡◌, ℕ, ◌+◌, ◌*◌, ◌<◌, Bool, true, false, T, List, length, sym, refl, ◌∙◌, subst, arith}
+use Rattle.std.proofs.Common.{◌≡◌, ℕ, ◌+◌, ◌*◌, ◌<◌, Bool, true, false, List, length, sym, ◌∙◌, arith}
 use Rattle.columns.specs.Columns.{difference, sum, byte_of, column_of, stored_byte, restored_byte, stored, restored}
 use Rattle.columns.specs.Places.{made, made_at, place_of, prior, Column, Rows}
 use Rattle.columns.proofs.Differences.{differences_next, sums_next, prior_same}
@@ -16,28 +16,17 @@ restored_there columns m c r h = grid_there m 536 (restored_byte columns m) r c 
 pub stored_fits : (m c r : ℕ) → c < 536 → r < m → c * m + r < m * 536
 stored_fits m c r h i = let k = place_fits 536 m c r h i in omega arith
 
--- the code's places, by the test of the way
-pub place_stored : (b : Bool) (m c r : ℕ) → b ≡ true → c < 536 → r < m → (c * m + r ≡ place_of b m c r) × (c * m + r < m * 536)
-place_stored true m c r e h i = (refl, stored_fits m c r h i)
-place_stored false m c r e h i = absurd (subst T (sym e) tt)
-
-pub place_restored : (b : Bool) (m c r : ℕ) → b ≡ false → c < 536 → r < m → (r * 536 + c ≡ place_of b m c r) × (r * 536 + c < m * 536)
-place_restored false m c r e h i = (refl, place_fits m 536 r c i h)
-place_restored true m c r e h i = absurd (subst T e tt)
-
 -- the code's bytes: x and d are read, p is the byte before
-pub byte_stored : (b : Bool) (records : List ℕ) (m c r : ℕ) {x p v : ℕ} → b ≡ true → r < m → x ≡ byte_of records c r → x < 256 → p ≡ prior (byte_of records c) r → v ≡ difference x p
-    → v ≡ made_at b records m (place_of b m c r)
-byte_stored true records m c r w i e h j k = differences_next (byte_of records c) r e h j k ∙ sym (stored_there records m c r i)
-byte_stored false records m c r w i e h j k = absurd (subst T (sym w) tt)
+pub byte_stored : (records : List ℕ) (m c r : ℕ) {x p v : ℕ} → r < m → x ≡ byte_of records c r → x < 256 → p ≡ prior (byte_of records c) r → v ≡ difference x p
+    → v ≡ made_at true records m (place_of true m c r)
+byte_stored records m c r i e h j k = differences_next (byte_of records c) r e h j k ∙ sym (stored_there records m c r i)
 
-pub byte_restored : (b : Bool) (columns out : List ℕ) (m c r : ℕ) {d p v : ℕ} → b ≡ false → c < 536 → Column (place_of b m) (made_at b columns m) out c r
-    → d ≡ column_of columns m c r → d < 256 → p ≡ prior (byte_of out c) r → v ≡ sum p d → v ≡ made_at b columns m (place_of b m c r)
-byte_restored false columns out m c r w i right e h j k =
+pub byte_restored : (columns out : List ℕ) (m c r : ℕ) {d p v : ℕ} → c < 536 → Column (place_of false m) (made_at false columns m) out c r
+    → d ≡ column_of columns m c r → d < 256 → p ≡ prior (byte_of out c) r → v ≡ sum p d → v ≡ made_at false columns m (place_of false m c r)
+byte_restored columns out m c r i right e h j k =
     sums_next (column_of columns m c) r e h
     (j ∙ prior_same (byte_of out c) (λ n. restored_byte columns m n c) r (λ n l. right n l ∙ restored_there columns m c n i)) k
     ∙ sym (restored_there columns m c r i)
-byte_restored true columns out m c r w i right e h j k = absurd (subst T w tt)
 
 -- all bytes are right
 pub made_whole : (b : Bool) (input out : List ℕ) (m : ℕ) → length out ≡ m * 536 → Rows (place_of b m) (made_at b input m) out m → out ≡ made b input m

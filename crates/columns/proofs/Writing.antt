@@ -2,7 +2,7 @@
 use Rattle.std.proofs.Common.{◌≡◌, ℕ, ◌+◌, ◌-◌, ◌<◌, Bool, true, false, ltb, List, length, get_or, set, sym, refl, ap, ◌∙◌, subst, arith, get_or-set_other, get_or-set_same, ltb-false, ltb-true}
 use mathlib.Core.Path.{subst⁻¹}
 use Rattle.laws.proofs.Picks.{here_or}
-use Rattle.columns.specs.Places.{Right, Stays, Column, Rows, Strip}
+use Rattle.columns.specs.Places.{Right, Stays, Column, Strip}
 
 module _ (g : ℕ → ℕ) (out : List ℕ) where
   write_right : (p q v : ℕ) → q ≡ p → p < length out → v ≡ g p → Right g (set out p v) q
@@ -41,18 +41,3 @@ module _ (place : ℕ → ℕ → ℕ) (g : ℕ → ℕ) (before after : List �
 
   pub block_more : (c e : ℕ) → Strip place g after c e → ((k : ℕ) → k < c → Column place g before k e) → (k : ℕ) → k < c + 8 → Column place g after k e
   block_more c e w d = reached (λ k. Column place g after k e) c 8 (λ k l r b. stays (place k r) (d k l r b)) w
-
--- a byte more of record r, at place q
-pub record_next : (place : ℕ → ℕ → ℕ) (g : ℕ → ℕ) (out : List ℕ) (c r q v : ℕ) → q ≡ place c r → q < length out → v ≡ g (place c r) → Rows place g out r → ((k : ℕ) → k < c → Right g out (place k r))
-    → Rows place g (set out q v) r × ((k : ℕ) → k < c + 1 → Right g (set out q v) (place k r))
-record_next place g out c r q v e h w rows d = (λ k i n j. stays (place k n) (rows k i n j), part_next (λ l k. Right g l (place k r)) out (set out q v) c (λ k. stays (place k r)) new d)
-  where
-    stays : Stays g out (set out q v)
-    stays = write_stays g out q v h (w ∙ ap g (sym e))
-
-    new : Right g (set out q v) (place c r)
-    new = write_right g out q (place c r) v (sym e) h (w ∙ ap g (sym e))
-
--- a record more
-pub rows_next : (place : ℕ → ℕ → ℕ) (g : ℕ → ℕ) (out : List ℕ) (r : ℕ) → Rows place g out r → ((k : ℕ) → k < 536 → Right g out (place k r)) → Rows place g out (r + 1)
-rows_next place g out r rows d k h = part_next (λ l n. Right g l (place k n)) out out r (λ n x. x) (d k h) (rows k h)

@@ -1,12 +1,9 @@
 -- What `store` and `restore` answer, and their output behind the call (02, 2026-07). Assumes nothing.
 use Rattle.std.specs.Prelude.{ℕ, ◌*◌, Bool, not, ◌||◌, List, length, ◌==◌, nat_lt}
-use Rattle.std.proofs.Math.Option.{none, some}
 use Rattle.laws.specs.Choice.{pick}
 use Rattle.laws.specs.Refusals.{refuse, Said, said}
 use Rattle.section.specs.Records.{record_size}
 use Rattle.columns.specs.Columns.{stored, restored}
-use Rattle.columns.specs.declared.rule.Stored.{Stored}
-use Rattle.columns.specs.declared.rule.Stored.TheVariants.{Done, Refused}
 
 -- "m records (1 to 65,535)"
 abbrev pub most_records : ℕ
@@ -19,12 +16,7 @@ sizes_broken m input output = m == 0 || (nat_lt most_records m || (not (input ==
 unfoldable pub sizes_rule : ℕ → ℕ → ℕ → ℕ
 sizes_rule m input output = refuse 16 (sizes_broken m input output)
 
--- the number in the list of refusals of each case; neither call gives a value
-abbrev pub stored_says : Stored → Said Unit
-stored_says Done = record { number = 0; values = some tt }
-stored_says (Refused n) = record { number = n; values = none }
-
--- what both calls say: rule 16 "is the only one"
+-- what both calls say: rule 16 "is the only one", and neither call gives a value
 abbrev pub columns_say : List ℕ → ℕ → List ℕ → Said Unit
 columns_say input m output = said (sizes_rule m (length input) (length output)) tt
 

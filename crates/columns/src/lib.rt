@@ -4,37 +4,37 @@
 pub mod bytes;
 pub mod converting;
 pub mod rule;
+pub mod steps;
 pub mod tiles;
 pub mod witness;
 
 ghost use Rattle.std.specs.Prelude.{◌≡◌};
-ghost use Rattle.columns.specs.Answers.{stored_says, columns_say, store_output, restore_output};
+ghost use Rattle.tune.specs.Rules.{says};
+ghost use Rattle.columns.specs.Answers.{columns_say, store_output, restore_output};
 
 use converting::convert;
-use rule::{Stored, sizes_rule};
+use rule::check_sizes;
+use steps::{Restoring, Storing};
+use tune::rules::Refusal;
 
-// Store: the columns of m records over the whole output; or 16, and nothing is written.
-pub fn store(records: &[u8], m: u32, out: &mut [u8]) -> Stored
-    ensures answer { stored_says result ≡ columns_say records.now m out.old }
+// Store: the columns of m records over the whole output; or rule 16 refuses, and nothing is written.
+#[tactic(auto, using(crate::proofs::Sizes::checked, crate::proofs::Sizes::left_alone, crate::proofs::Sizes::all_written), unfolding(crate::specs::Answers::store_output))]
+pub fn store(records: &[u8], m: u32, out: &mut [u8]) -> Result<(), Refusal>
+    ensures answer { says result ≡ columns_say records.now m out.old }
     ensures written { out.new ≡ store_output records.now m out.old }
 {
-    let rule = sizes_rule(m, records.len(), out.len());
-    if rule != 0 {
-        return Stored::Refused(rule);
-    }
-    convert(records, m as usize, out, true);
-    Stored::Done
+    check_sizes(m, records.len(), out.len())?;
+    convert::<Storing>(records, m as usize, out);
+    Ok(())
 }
 
-// Restore: the m records of such columns over the whole output; or 16, and nothing is written.
-pub fn restore(columns: &[u8], m: u32, out: &mut [u8]) -> Stored
-    ensures answer { stored_says result ≡ columns_say columns.now m out.old }
+// Restore: the m records of such columns over the whole output; or rule 16 refuses, and nothing is written.
+#[tactic(auto, using(crate::proofs::Sizes::checked, crate::proofs::Sizes::left_alone, crate::proofs::Sizes::all_written), unfolding(crate::specs::Answers::restore_output))]
+pub fn restore(columns: &[u8], m: u32, out: &mut [u8]) -> Result<(), Refusal>
+    ensures answer { says result ≡ columns_say columns.now m out.old }
     ensures written { out.new ≡ restore_output columns.now m out.old }
 {
-    let rule = sizes_rule(m, columns.len(), out.len());
-    if rule != 0 {
-        return Stored::Refused(rule);
-    }
-    convert(columns, m as usize, out, false);
-    Stored::Done
+    check_sizes(m, columns.len(), out.len())?;
+    convert::<Restoring>(columns, m as usize, out);
+    Ok(())
 }

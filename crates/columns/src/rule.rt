@@ -1,30 +1,18 @@
-// What both calls answer, and rule 16.
+// Rule 16, the only one of both calls.
 ghost use Rattle.std.specs.Prelude.{◌≡◌};
+ghost use Rattle.tune.specs.Rules.{verdict};
 ghost use Rattle.columns.specs.Answers.{sizes_rule};
 
-// The output is written, or the number of the rule that refuses.
-#[derive(Clone, Copy)]
-pub enum Stored {
-    Done,
-    Refused(u8),
-}
+use tune::rules::{Refusal, refuse_if};
 
-// 16 where m is not 1 to 65,535 or a length is not m × 536, else 0.
-pub fn sizes_rule(m: u32, input: usize, output: usize) -> u8
-    ensures { result ≡ sizes_rule m input output }
+// Refused where m is not 1 to 65,535 or a length is not m × 536.
+#[tactic(auto, unfolding(crate::specs::Answers::sizes_rule))]
+pub fn check_sizes(m: u32, input: usize, output: usize) -> Result<(), Refusal>
+    ensures { verdict result ≡ sizes_rule m input output }
 {
-    if m == 0 {
-        return 16;
-    }
-    if 65535 < m {
-        return 16;
-    }
     let size = m as usize * 536;
-    if input != size {
-        return 16;
-    }
-    if output != size {
-        return 16;
-    }
-    0
+    refuse_if(
+        m == 0 || 65535 < m || input != size || output != size,
+        Refusal::ColumnSizes,
+    )
 }

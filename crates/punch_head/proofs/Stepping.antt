@@ -12,10 +12,13 @@ use Rattle.laws.proofs.Parts.{cut_length, put_as, put_next}
 use Rattle.laws.proofs.Picks.{choice, or_false, pick_equal, pick_unequal}
 use Rattle.laws.proofs.Rules.{kept, sound}
 use Rattle.punch_head.specs.Registers.{other_bits, status_of, loaded, mask_bytes, position_bytes, row_mask, row_start, registers_rule, load_rule, head_rule}
-use Rattle.punch_head.specs.Steps.{action_of, number_of, same, status_by, registers_by, stepped_says, step_says, step_registers}
+use Rattle.std.proofs.Common.{Result, Ok, Err}
+use Rattle.tune.specs.declared.rules.Refusal.{Refusal}
+use Rattle.tune.specs.Rules.{number_of as rule_number, verdict, says}
+use Rattle.tune.proofs.Checks.{number_more}
+use Rattle.punch_head.specs.Steps.{action_of, number_of, same, status_by, registers_by, step_says, step_registers}
 use Rattle.punch_head.specs.declared.actions.Action.{Action}
 use Rattle.punch_head.specs.declared.actions.Action.TheVariants.{Loaded, Late, Struck, Cleared, Nothing}
-use Rattle.punch_head.specs.declared.Stepped.TheVariants.{Done, Refused}
 
 -- registers that rule 15 takes
 pub record Kept (g : List ℕ) : Type 0 where
@@ -69,6 +72,19 @@ row_whole g command r b k e t =
     action_cases (λ (a : Action). same a Loaded ≡ true → length r ≡ 536) command b (λ q _ _. (head_kept g command r k).1 q) (λ _ z. cc) (λ _ z. cc) (λ z. cc) (λ z. cc)
     (ap (λ (a : Action). same a Loaded) (sym e) ∙ t)
 
+-- the action that takes a record, and the others
+pub takes : (a : Action) → a ≡ Loaded → same a Loaded ≡ true
+unfolding number_of
+takes a e = rw e
+
+pub takes_none : (a : Action) → (a ≡ Loaded → ⊥) → same a Loaded ≡ false
+unfolding number_of
+takes_none Loaded h = absurd (h refl)
+takes_none Late h = refl
+takes_none Struck h = refl
+takes_none Cleared h = refl
+takes_none Nothing h = refl
+
 -- the sixteen bytes by their places, with a command and a status written
 pub marked_is : (g : List ℕ) (command s : ℕ) → Kept g → set (set g 0 command) 1 s ≡ command ∷ s ∷ 0 ∷ 0 ∷ (mask_bytes g ++ position_bytes g)
 marked_is [] command s k = absurd (let e = k.size in omega arith)
@@ -90,17 +106,23 @@ module _ (g : List ℕ) (command : ℕ) (r : List ℕ) (a : Action) (s : ℕ) (k
   unfolding registers_by
   row_taken t q = q ∙ ap (λ (z : List ℕ). take 4 z ++ (row_mask r ++ row_start r)) (marked_is g command s k) ∙ rw (t, e)
 
--- a step by its rule's number
-module _ (g : List ℕ) (command : ℕ) (r : List ℕ) (n : ℕ) (e : n ≡ head_rule g command r) where
-  pub step_refused : (n ≡ 0 → ⊥) → (stepped_says (Refused n) ≡ step_says g command r) × (g ≡ step_registers g command r)
+-- a step by what the check gave
+module _ (g : List ℕ) (command : ℕ) (r : List ℕ) {A : Type 0} {x : Result A Refusal} (v : verdict x ≡ head_rule g command r) where
+  pub step_refused : {n : Refusal} → x ≡ Err n → (says {A = Action} (Err n) ≡ step_says g command r) × (g ≡ step_registers g command r)
   unfolding step_registers
-  step_refused h = (rw (sym e, ne_eqb n 0 h), sym (pick_unequal (head_rule g command r) 0 _ g (λ z. h (e ∙ z))))
+  step_refused {n} e =
+      let z : rule_number n ≡ head_rule g command r = cc in
+      (rw (sym z, ne_eqb (rule_number n) 0 (number_more n)), sym (pick_unequal (head_rule g command r) 0 _ g (λ q. number_more n (z ∙ q))))
 
-  pub step_done : n ≡ 0 → {a : Action} {after : List ℕ} → a ≡ action_of command (loaded g) → after ≡ registers_by a g command r
-      → (stepped_says (Done a) ≡ step_says g command r) × (after ≡ step_registers g command r)
+  pub step_kept : {y : A} → x ≡ Ok y → head_rule g command r ≡ 0
+  step_kept e = cc
+
+  pub step_done : {y : A} {a : Action} {after : List ℕ} → x ≡ Ok y → a ≡ action_of command (loaded g) → after ≡ registers_by a g command r
+      → (says (Ok a) ≡ step_says g command r) × (after ≡ step_registers g command r)
   unfolding step_registers
-  step_done z f q =
-      (rw (sym e ∙ z, f), q ∙ ap (λ (a : Action). registers_by a g command r) f ∙ sym (pick_equal (head_rule g command r) 0 _ g (sym e ∙ z)))
+  step_done e f q =
+      let z = step_kept e in
+      (rw (z, f), q ∙ ap (λ (a : Action). registers_by a g command r) f ∙ sym (pick_equal (head_rule g command r) 0 _ g z))
 
 -- a record's mask and start, put one behind the other
 pub both_put : (g r : List ℕ) {xs ys : List ℕ} → length g ≡ 16 → length r ≡ 536 → xs ≡ take 4 g ++ (row_mask r ++ drop (4 + length (row_mask r)) g)

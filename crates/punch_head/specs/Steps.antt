@@ -1,13 +1,10 @@
 -- The punch head's step (02, 2026-05): what it does and says, and the registers behind it. Assumes nothing.
 use Rattle.std.specs.Prelude.{ℕ, Bool, List, ◌∷◌, ◌++◌, eqb}
-use Rattle.std.proofs.Math.Option.{none, some}
 use Rattle.laws.specs.Choice.{pick}
 use Rattle.laws.specs.Refusals.{Said, said}
 use Rattle.punch_head.specs.Registers.{load_command, strike_command, clear_command, loaded_bit, late_bit, interrupt_bit, with_bit, without_bit, status_of, loaded, mask_bytes, position_bytes, row_mask, row_start, head_rule}
 use Rattle.punch_head.specs.declared.actions.Action.{Action}
 use Rattle.punch_head.specs.declared.actions.Action.TheVariants.{Loaded, Late, Struck, Cleared, Nothing}
-use Rattle.punch_head.specs.declared.Stepped.{Stepped}
-use Rattle.punch_head.specs.declared.Stepped.TheVariants.{Done, Refused}
 
 -- a load is taken if not loaded, else it is late; a strike is done if loaded; "other commands do nothing more"
 unfoldable pub action_of : ℕ → Bool → Action
@@ -44,11 +41,6 @@ unfoldable pub registers_by : Action → List ℕ → ℕ → List ℕ → List 
 registers_by a g command r =
     command ∷ status_by a (status_of g) ∷ 0 ∷ 0
     ∷ (taken_by a (row_mask r) (mask_bytes g) ++ taken_by a (row_start r) (position_bytes g))
-
--- the number in the list of refusals and the value of each case
-abbrev pub stepped_says : Stepped → Said Action
-stepped_says (Done a) = record { number = 0; values = some a }
-stepped_says (Refused n) = record { number = n; values = none }
 
 -- what a step says: its action, or the rule that refuses it
 abbrev pub step_says : List ℕ → ℕ → List ℕ → Said Action

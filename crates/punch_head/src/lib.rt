@@ -7,20 +7,15 @@ pub mod status;
 pub mod witness;
 
 ghost use Rattle.std.specs.Prelude.{◌≡◌, ◌++◌, length, take};
+ghost use Rattle.tune.specs.Rules.{says};
 ghost use Rattle.punch_head.specs.Registers.{loaded, row_mask, row_start, head_rule};
-ghost use Rattle.punch_head.specs.Steps.{action_of, registers_by, stepped_says, step_says, step_registers};
+ghost use Rattle.punch_head.specs.Steps.{action_of, registers_by, step_says, step_registers};
 
-use actions::{Action, action_of, is_taken};
-use rules::head_rule;
+use actions::{Action, action_of};
+use rules::check_step;
 use status::{is_loaded, status_by};
 use tune::parts::put_at;
-
-// What a step did, or the number of the rule that refuses it.
-#[derive(Clone, Copy)]
-pub enum Stepped {
-    Done(Action),
-    Refused(u8),
-}
+use tune::rules::Refusal;
 
 // A record's mask and start into the registers.
 fn take_row(registers: &mut [u8], row: &[u8])
@@ -40,20 +35,17 @@ fn act(registers: &mut [u8], command: u8, row: &[u8]) -> Action
     let action = action_of(command, is_loaded(status));
     registers[0] = command;
     registers[1] = status_by(action, status);
-    if is_taken(action) {
+    if action == Action::Loaded {
         take_row(registers, row);
     }
     action
 }
 
-// A step: what it did and the registers behind it, or 15 or 13 and the registers as they were.
-pub fn step(registers: &mut [u8], command: u8, row: &[u8]) -> Stepped
-    ensures answer { stepped_says result ≡ step_says registers.old command row.now }
+// A step: what it did and the registers behind it, or rule 15 or 13 and the registers as they were.
+pub fn step(registers: &mut [u8], command: u8, row: &[u8]) -> Result<Action, Refusal>
+    ensures answer { says result ≡ step_says registers.old command row.now }
     ensures written { registers.new ≡ step_registers registers.old command row.now }
 {
-    let rule = head_rule(registers, command, row);
-    if rule != 0 {
-        return Stepped::Refused(rule);
-    }
-    Stepped::Done(act(registers, command, row))
+    check_step(registers, command, row)?;
+    Ok(act(registers, command, row))
 }

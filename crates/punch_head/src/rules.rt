@@ -1,38 +1,36 @@
 // The rules that refuse a step: 15, then 13.
 ghost use Rattle.std.specs.Prelude.{◌≡◌};
+ghost use Rattle.tune.specs.Rules.{verdict};
 ghost use Rattle.punch_head.specs.Registers.{registers_rule, load_rule, head_rule};
 
 use crate::status::has_other_bits;
-use tune::refusals::first_of;
+use tune::rules::{Refusal, refuse_if};
 
-// 15 where the registers are broken, else 0.
-fn registers_rule(registers: &[u8]) -> u8
-    ensures { result ≡ registers_rule registers.now }
+// Rule 15: the registers are broken.
+#[tactic(auto, unfolding(crate::specs::Registers::registers_rule))]
+fn check_registers(registers: &[u8]) -> Result<(), Refusal>
+    ensures { verdict result ≡ registers_rule registers.now }
 {
-    if registers.len() != 16 {
-        return 15;
-    }
-    if (registers[2] != 0) | ((registers[3] != 0) | has_other_bits(registers[1])) {
-        return 15;
-    }
-    0
+    let broken = registers.len() != 16
+        || registers[2] != 0
+        || registers[3] != 0
+        || has_other_bits(registers[1]);
+    refuse_if(broken, Refusal::Registers)
 }
 
-// 13 where a load has no record of 536 bytes, else 0.
-fn load_rule(command: u8, row: &[u8]) -> u8
-    ensures { result ≡ load_rule command row.now }
+// Rule 13: a load has no record of 536 bytes.
+#[tactic(auto, unfolding(crate::specs::Registers::load_rule))]
+fn check_load(command: u8, row: &[u8]) -> Result<(), Refusal>
+    ensures { verdict result ≡ load_rule command row.now }
 {
-    if (command == 1) & (row.len() != 536) {
-        return 13;
-    }
-    0
+    refuse_if((command == 1) & (row.len() != 536), Refusal::Record)
 }
 
-// The number of the rule that refuses a step, 15 first, else 0.
-pub fn head_rule(registers: &[u8], command: u8, row: &[u8]) -> u8
-    ensures { result ≡ head_rule registers.now command row.now }
+// The rule that refuses a step, 15 first.
+#[tactic(auto, using(tune::proofs::Checks::refused, tune::proofs::Checks::passed), unfolding(crate::specs::Registers::head_rule))]
+pub fn check_step(registers: &[u8], command: u8, row: &[u8]) -> Result<(), Refusal>
+    ensures { verdict result ≡ head_rule registers.now command row.now }
 {
-    let broken = registers_rule(registers);
-    let bad = load_rule(command, row);
-    first_of(broken, bad)
+    check_registers(registers)?;
+    check_load(command, row)
 }

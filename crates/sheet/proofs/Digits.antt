@@ -2,7 +2,7 @@
 use mathlib.Core.Path.{◌≡◌, refl, sym, ap, ◌∙◌}
 use mathlib.Core.Bool.{Bool, true, false}
 use mathlib.Core.List.{List, [], ◌∷◌, ◌++◌, append_assoc}
-use Prim.Native.Nat.{ℕ, zero, suc, ◌+◌, ◌-◌, ◌*◌, ◌/◌, ◌%◌, ◌^◌, ◌≤◌, ◌<◌}
+use Prim.Native.Nat.{ℕ, zero, suc, ◌+◌, ◌-◌, ◌*◌, ◌/◌, ◌%◌, ◌^◌, ◌≤◌, ◌<◌, max}
 use native.Mathlib.Nat.{add-zero, pow-suc, mod-eq_of_lt}
 use native.Mathlib.Numerals.{add-one}
 use native.Mathlib.Omega.{arith}
@@ -65,44 +65,38 @@ unfolding decimal
 decimal_short zero d x h = omega arith
 decimal_short (suc f) d x h = short_by f x (ltb x 10) refl (λ e. decimal_short f e (x / 10)) d h
 
--- k - 1 digits of n are counted, and the rest are the digits of this number
-pub record Counted (n rest k : ℕ) : Type 0 where
-  pub least : 1 ≤ k
-  pub most : k ≤ 20
-  pub below : rest < 10 ^ (21 - k)
-  pub same : length (decimal 20 n) + 1 ≡ k + length (decimal (21 - k) rest)
+pow_one : (d : ℕ) → 1 ≤ 10 ^ d
+pow_one zero = omega arith
+pow_one (suc d) = let h = pow_one d in rw (pow-suc 10 d) (omega arith)
 
--- before the first turn
-pub count_start : (n : ℕ) → n < 2 ^ 64 → Counted n n 1
-count_start n h = record { least = omega arith; most = omega arith; below = omega arith; same = omega arith }
+long_by : (f x : ℕ) (b : Bool) → ltb x 10 ≡ b → ((d : ℕ) → d < f → 10 ^ d ≤ x / 10 → d + 1 ≤ length (decimal f (x / 10))) → (d : ℕ) → d < suc f → 10 ^ d ≤ x → d + 1 ≤ length (decimal (suc f) x)
+long_by f x true e ih zero g h = rw (decimal_one f x (ltb-true x 10 e)) (omega arith)
+long_by f x true e ih (suc d) g h = let p : 10 ^ d * 10 ≤ x = rw (← pow-suc 10 d) h in let q = ltb-true x 10 e in absurd (let r = pow_one d in omega arith)
+long_by f x false e ih zero g h = rw (length_more f x (ltb-false x 10 e)) (omega arith)
+long_by f x false e ih (suc d) g h =
+    let p : 10 ^ d * 10 ≤ x = rw (← pow-suc 10 d) h in
+    let m = length_more f x (ltb-false x 10 e) in
+    let r = ih d (omega arith) (omega arith) in
+    omega (arith, m, r)
 
-two_left : (m x : ℕ) → 9 < x → x < 10 ^ m → 2 ≤ m
-two_left zero x g h = absurd (omega arith)
-two_left (suc zero) x g h = absurd (omega arith)
-two_left (suc (suc m)) x g h = omega arith
+-- a number that is not below the power of ten has more digits
+pub decimal_long : (f d x : ℕ) → d < f → 10 ^ d ≤ x → d + 1 ≤ length (decimal f x)
+unfolding decimal
+decimal_long zero d x g h = absurd (omega arith)
+decimal_long (suc f) d x g h = long_by f x (ltb x 10) refl (λ e. decimal_long f e (x / 10)) d g h
 
--- a turn counts a digit
-pub count_next : (n rest k : ℕ) → 9 < rest → Counted n rest k → Counted n (rest / 10) (k + 1)
-count_next n rest k g c =
-    let t = two_left (21 - k) rest g c.below in
-    let q : 21 - k ≡ suc (21 - (k + 1)) = omega (arith, c.least) in
-    let b : rest < 10 ^ suc (21 - (k + 1)) = rw (← q) c.below in
-    let s : length (decimal 20 n) + 1 ≡ k + length (decimal (suc (21 - (k + 1))) rest) = rw (← q) c.same in
-    let m = length_more (21 - (k + 1)) rest (omega arith) in
-    record {
-      least = omega arith;
-      most = omega (arith, t);
-      below = tenth_below (21 - (k + 1)) rest b;
-      same = omega (arith, s, m);
-    }
-
--- one digit is left: all are counted
-pub count_done : (n rest k : ℕ) → rest ≤ 9 → Counted n rest k → k ≡ length (decimal 20 n)
-count_done n rest k g c =
-    let q : 21 - k ≡ suc (20 - k) = omega (arith, c.most) in
-    let s : length (decimal 20 n) + 1 ≡ k + length (decimal (suc (20 - k)) rest) = rw (← q) c.same in
-    let m : length (decimal (suc (20 - k)) rest) ≡ 1 = rw (decimal_one (20 - k) rest (omega arith)) in
-    omega (arith, s, m)
+-- how many digits a number has, by the greatest power of ten in it; 0 has as many as 1
+pub width_is : (k n : ℕ) → k < 20 → 10 ^ k ≤ max n 1 → max n 1 < 10 * 10 ^ k → k + 1 ≡ length (decimal 20 n)
+width_is k zero b g h =
+    let l = decimal_long 20 k 1 b g in
+    let one : length (decimal 20 1) ≡ 1 = rw (decimal_one 19 1 (omega arith)) in
+    let none : length (decimal 20 0) ≡ 1 = rw (decimal_one 19 0 (omega arith)) in
+    omega (arith, l, one, none)
+width_is k (suc n) b g h =
+    let p : suc n < 10 ^ suc k = rw (pow-suc 10 k) (omega arith) in
+    let l = decimal_long 20 k (suc n) b (omega arith) in
+    let s = decimal_short 20 k (suc n) p in
+    omega (arith, l, s)
 
 -- a list with the last i digits of x at a place
 abbrev pub inked : ℕ → ℕ → ℕ → List ℕ → List ℕ

@@ -1,12 +1,9 @@
 -- A record that a call is lent, and what it answers (01, 'From record to paper', rule 13). Assumes nothing.
 use Rattle.std.specs.Prelude.{ℕ, zero, suc, not, ◌||◌, List, ◌++◌, eqb, ltb, length, drop}
-use Rattle.std.proofs.Math.Option.{none, some}
 use Rattle.std.specs.Int.Count.{ones}
-use Rattle.laws.specs.Refusals.{refuse, Said}
+use Rattle.laws.specs.Refusals.{refuse}
 use Rattle.tune.specs.Numbers.{little_at}
 use Rattle.section.specs.Records.{record_size, strikes_at}
-use Rattle.sheet.specs.declared.answer.Answer.{Answer}
-use Rattle.sheet.specs.declared.answer.Answer.TheVariants.{Done, Refused}
 
 -- rule 13: the record is not 536 bytes, or the output is under so many
 unfoldable pub record_rule : List ℕ → ℕ → ℕ → ℕ
@@ -16,11 +13,6 @@ record_rule r room least = refuse 13 (not (eqb (length r) record_size) || ltb ro
 unfoldable pub written : ℕ → List ℕ → List ℕ → List ℕ
 written zero bytes out = bytes ++ drop (length bytes) out
 written (suc rule) bytes out = out
-
--- 01's number and value of each case: how many channels or bytes, or the rule
-abbrev pub answer_says : Answer → Said ℕ
-answer_says (Done n) = record { number = 0; values = some n }
-answer_says (Refused x) = record { number = x; values = none }
 
 -- a record's strike mask, and how many channels it strikes
 abbrev pub mask_of : List ℕ → ℕ

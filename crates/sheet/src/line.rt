@@ -1,32 +1,26 @@
 // Line: a record's line of the sheet.
-ghost use Rattle.std.specs.Prelude.{◌≡◌, ◌+◌, ◌%◌, ◌≤◌, ◌<◌, ◌∷◌, ◌++◌, length, take, drop, get_or};
-ghost use Rattle.tune.specs.Numbers.{little_at};
-ghost use Rattle.section.specs.Records.{start_at};
-ghost use Rattle.sheet.specs.Records.{answer_says, strike_count};
+ghost use Rattle.std.specs.Prelude.{◌≡◌, ◌+◌, ◌%◌, ◌≤◌, ◌<◌, ◌∷◌, ◌++◌, length, take, drop};
+ghost use Rattle.tune.specs.Rules.{says};
 ghost use Rattle.sheet.specs.Digits.{digits, mark_at};
 ghost use Rattle.sheet.specs.Lines.{decimal, spelled, line_fields, line_says, line_output};
 
-use crate::answer::{Answer, record_rule};
-use tune::numbers::{u32_at, u64_at, wide};
+use crate::record::{Record, check_record};
+use tune::numbers::{u32_at, u64_at};
+use tune::rules::Refusal;
 
 // How many digits a number has.
+#[tactic(auto, using(crate::proofs::Digits::width_is))]
 fn width(n: u64) -> usize
     ensures { result ≡ length (decimal 20 n) }
 {
-    let mut rest = n;
-    let mut k: usize = 1;
-    while 9 < rest {
-        rest = rest / 10;
-        k += 1;
-    }
-    k
+    n.max(1).ilog10() as usize + 1
 }
 
 // The last digit of a number.
 fn digit(n: u64) -> u8
     ensures { result ≡ 48 + n % 10 }
 {
-    (48 + n % 10) as u8
+    b'0' + (n % 10) as u8
 }
 
 // Writes the last k digits of a number, the last one first.
@@ -35,11 +29,9 @@ fn put_digits(out: &mut [u8], at: usize, n: u64, k: usize)
     ensures { out.new ≡ take at out.old ++ (digits k n ++ drop (at + k) out.old) }
 {
     let mut rest = n;
-    let mut i = k;
-    while 0 < i {
-        i -= 1;
+    for i in (0..k).rev() {
         out[at + i] = digit(rest);
-        rest = rest / 10;
+        rest /= 10;
     }
 }
 
@@ -58,7 +50,7 @@ fn put_number(out: &mut [u8], at: usize, n: u64) -> usize
 fn mark_at(i: usize) -> u8
     ensures { result ≡ mark_at i }
 {
-    if i == 8 { 10 } else { 44 }
+    if i == 8 { b'\n' } else { b',' }
 }
 
 // Writes a number and the byte behind it, and gives the next place.
@@ -79,65 +71,36 @@ fn put_fields(out: &mut [u8], fields: [u64; 9]) -> usize
     ensures out_after { out.new ≡ spelled fields ++ drop result out.old }
 {
     let mut at: usize = 0;
-    let mut i: usize = 0;
-    while i < 9 {
-        at = put_field(out, at, fields[i], mark_at(i));
-        i += 1;
+    for (i, &field) in fields.iter().enumerate() {
+        at = put_field(out, at, field, mark_at(i));
     }
     at
 }
 
-fn byte_at(row: &[u8], at: usize) -> u64
-    requires { at < length row.now }
-    ensures { (result ≡ get_or row.now at 0) × (result < 256) }
-{
-    wide(row[at]) as u64
-}
-
-// The 64-bit start of a record.
-fn start_of(row: &[u8]) -> u64
-    requires { length row.now ≡ 536 }
-    ensures { result ≡ little_at 8 row.now start_at }
-{
-    u64_at(row, 8)
-}
-
-// How many channels a record strikes.
-fn count_of(row: &[u8]) -> u64
-    requires { length row.now ≡ 536 }
-    ensures { (result ≡ strike_count row.now) × (result ≤ 32) }
-{
-    u32::count_ones(u32_at(row, 16)) as u64
-}
-
 // The nine numbers of a record's line, which takes at most 64 bytes.
-fn fields_of(row: &[u8]) -> [u64; 9]
-    requires { length row.now ≡ 536 }
+fn fields_of(row: &Record) -> [u64; 9]
     ensures value { result ≡ line_fields row.now }
     ensures short { length (spelled result) ≤ 64 }
 {
     [
-        byte_at(row, 0),
-        byte_at(row, 1),
-        byte_at(row, 2),
-        byte_at(row, 3),
-        byte_at(row, 4),
-        byte_at(row, 5),
-        start_of(row),
+        row[0] as u64,
+        row[1] as u64,
+        row[2] as u64,
+        row[3] as u64,
+        row[4] as u64,
+        row[5] as u64,
+        u64_at(row, 8),
         u32_at(row, 20) as u64,
-        count_of(row),
+        u32_at(row, 16).count_ones() as u64,
     ]
 }
 
-// Line: a record's line in the first bytes of the output, and how many they are; or 13.
-pub fn line(row: &[u8], out: &mut [u8]) -> Answer
-    ensures answer { answer_says result ≡ line_says row.now out.old }
+// Line: a record's line in the first bytes of the output, and how many they are; or rule 13.
+pub fn line(row: &[u8], out: &mut [u8]) -> Result<u8, Refusal>
+    ensures answer { says result ≡ line_says row.now out.old }
     ensures written { out.new ≡ line_output row.now out.old }
 {
-    let rule = record_rule(row, out.len(), 64);
-    if rule != 0 {
-        return Answer::Refused(rule);
-    }
+    let row = check_record(row, out.len(), 64)?;
     let n = put_fields(out, fields_of(row));
-    Answer::Done(n as u8)
+    Ok(n as u8)
 }

@@ -1,12 +1,8 @@
 -- `columns::tiles::copy_row` meets its contract. Assumes nothing.
-use Rattle.std.proofs.Common.{◌≡◌, ℕ, ◌+◌, ◌-◌, ◌<◌, ◌≤◌, length, get_or}
+use Rattle.std.proofs.Common.{◌≡◌, ℕ, ◌+◌, ◌<◌, get_or}
 use Rattle.columns.specs.Places.{Right, Stays}
 use Rattle.columns.proofs.tiles.copy_row.Given as goal
 
 abbrev pub invariant-loop-j : goal.invariant-loop-j
 invariant-loop-j l =
-    (l.j ≤ l.n) × (length l.to ≡ length l.initial.to)
-    × ((g : ℕ → ℕ) → ((k : ℕ) → k < l.n → get_or l.from (l.b + k) 0 ≡ g (l.a + k)) → Stays g l.initial.to l.to × ((k : ℕ) → k < l.j → Right g l.to (l.a + k)))
-
-abbrev pub decreases-loop-j : goal.decreases-loop-j
-decreases-loop-j l = l.n - l.j
+    (g : ℕ → ℕ) → ((k : ℕ) → k < l.n → get_or l.from (l.b + k) 0 ≡ g (l.a + k)) → Stays g l.initial.to l.to × ((k : ℕ) → k < l.j → Right g l.to (l.a + k))

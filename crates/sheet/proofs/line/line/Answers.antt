@@ -1,40 +1,20 @@
 -- `sheet::line::line` meets its contract. Assumes nothing.
-use mathlib.Core.Path.{sym, ◌∙◌}
-use native.Mathlib.Nat.{le_trans}
-use Rattle.sheet.specs.Lines.{line_of}
+use mathlib.Core.Path.{◌≡◌, ap, ◌∙◌}
 use lib.ListN.{length}
-use Rattle.sheet.specs.Records.{written}
-use Rattle.sheet.proofs.Given.{record_fits, call_refused}
+use Rattle.sheet.specs.Lines.{line_fields, line_of}
+use Rattle.sheet.proofs.Given.{refused, wrote, answered}
 use Rattle.sheet.proofs.line.line.Goals as goal
 
-pub returns-then-rule-ne0-clause-answer : goal.returns-then-rule-ne0-clause-answer
-returns-then-rule-ne0-clause-answer c =
-    rw (← c.record_rule-rule.ensures) (call_refused c.record_rule-rule.result (length (line_of c.args.row.now)) (line_of c.args.row.now) c.args.out.now c.if-rule-ne0.true).0
+pub returns-in_err-row-clause-written : goal.returns-in_err-row-clause-written
+returns-in_err-row-clause-written c = refused _ _ _ (line_of c.args.row.now) c.args.out.now c.in_err-row.was c.check_record.ensures.rule
 
-pub returns-then-rule-ne0-clause-written : goal.returns-then-rule-ne0-clause-written
-returns-then-rule-ne0-clause-written c =
-    rw (← c.record_rule-rule.ensures) (call_refused c.record_rule-rule.result (length (line_of c.args.row.now)) (line_of c.args.row.now) c.args.out.now c.if-rule-ne0.true).1
-
-pub fields_of-requires : goal.fields_of-requires
-fields_of-requires c =
-    let f = record_fits _ _ 64 (sym c.record_rule-rule.ensures ∙ c.if-rule-ne0.false) in
-    f.0
-
-pub put_fields-n-requires : goal.put_fields-n-requires
-put_fields-n-requires c =
-    let f = record_fits _ _ 64 (sym c.record_rule-rule.ensures ∙ c.if-rule-ne0.false) in
-    le_trans c.fields_of.ensures.short f.1
-
-pub returns-clause-answer : goal.returns-clause-answer
+pub returns : goal.returns
 unfolding line_of
-returns-clause-answer c =
+returns c =
     let p = c.put_fields-n.ensures in
-    let f = c.fields_of.ensures.value in
-    rw (← c.record_rule-rule.ensures, c.if-rule-ne0.false, p.value, f)
-
-pub returns-clause-written : goal.returns-clause-written
-unfolding line_of written
-returns-clause-written c =
-    let p = c.put_fields-n.ensures in
-    let f = c.fields_of.ensures.value in
-    rw (← c.record_rule-rule.ensures, c.if-rule-ne0.false) (p.out_after ∙ rw (p.value, f))
+    let f : c.fields_of.result ≡ line_fields c.args.row.now = c.fields_of.ensures.value ∙ ap line_fields c.in_ok-row.ensures.same in
+    let rule = c.check_record.ensures.rule in
+    record {
+      answer = answered _ _ _ _ (length (line_of c.args.row.now)) c.in_ok-row.was rule (rw (← f) p.value);
+      written = wrote _ _ _ (line_of c.args.row.now) c.args.out.now c.in_ok-row.was rule (rw (← f, ← p.value) p.out_after);
+    }

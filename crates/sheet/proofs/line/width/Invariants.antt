@@ -1,9 +1,0 @@
--- `sheet::line::width` meets its contract. Assumes nothing.
-use Rattle.sheet.proofs.Digits.{Counted}
-use Rattle.sheet.proofs.line.width.Given as goal
-
-abbrev pub invariant-loop-rest : goal.invariant-loop-rest
-invariant-loop-rest l = Counted l.n l.rest l.k
-
-abbrev pub decreases-loop-rest : goal.decreases-loop-rest
-decreases-loop-rest l = l.rest
