@@ -14,31 +14,31 @@ use Rattle.laws.specs.Choice.{pick}
 use Rattle.laws.specs.Refusals.{Said, said}
 use Rattle.laws.proofs.Picks.{pick_equal, pick_unequal}
 use Rattle.laws.proofs.Pieces.{length-pieces}
+use Rattle.std.proofs.Common.{Result, Ok, Err}
+use Rattle.std.proofs.Math.Option.{some}
 use Rattle.tune.specs.Opening.{blank_opening}
+use Rattle.tune.specs.Rules.{number_of, says}
+use Rattle.tune.specs.declared.rules.Refusal.{Refusal}
+use Rattle.tune.proofs.Checks.{number_more}
 use Rattle.tune.specs.declared.opening.Opening.{Opening}
 use Rattle.s3m.specs.Layout.{counts_of}
 use Rattle.s3m.specs.Refusals.{measure_rule}
 use Rattle.s3m.specs.Opening.{channel_at, opening_of}
 use Rattle.s3m.proofs.Opens.{read_untransposed}
-use Rattle.s3m.specs.Answers.{measured, measured_says, refusal_of, reading, orders_after, samples_after, cells_after}
+use Rattle.s3m.specs.Answers.{refusal_of, orders_after, samples_after, cells_after}
 use Rattle.s3m.specs.declared.header.Counts.{Counts}
-use Rattle.s3m.specs.declared.header.Measured.{Measured}
-use Rattle.s3m.specs.declared.header.Measured.TheVariants.{Found, Refused}
-use Rattle.s3m.specs.declared.Reading.{Reading}
 use Rattle.section.specs.Tables.{Tables}
 use Rattle.section.specs.Open.{opened_by, fresh_state}
 use Rattle.section.specs.Walk.{walk}
 use Rattle.section.specs.Section.{section_rule, gave, answer_by, section_of, sectioned, output_after}
 use Rattle.section.specs.declared.state.State.{State}
-use Rattle.section.specs.declared.state.Opened.{Opened}
-use Rattle.section.specs.declared.state.Sectioned.{Sectioned}
-use Rattle.s3m.specs.declared.ReadAnswer.TheVariants as Read
+use Rattle.section.specs.Open.{Opened}
+use Rattle.section.specs.Section.{Sectioned}
 use Rattle.section.specs.Section as section
 use Rattle.closed.specs.Answers.{open_closed_rule}
 use Rattle.closed.specs.Ends.{most_rows, EndsWithin}
 use Rattle.closed.proofs.Answered.{fresh_ends}
-use Rattle.punch_head.specs.Steps.{stepped_says, step_says, step_registers}
-use Rattle.punch_head.specs.declared.Stepped.{Stepped}
+use Rattle.punch_head.specs.Steps.{step_says, step_registers}
 use Rattle.punch_head.specs.declared.actions.Action.{Action}
 use Rattle.lomqashe.specs.Openings.{opening_size, opening_bytes, opening_at}
 use Rattle.lomqashe.specs.States.{state_size, state_bytes, state_of}
@@ -46,12 +46,23 @@ use Rattle.lomqashe.specs.Typed.{TypedOpening}
 use Rattle.lomqashe.specs.Answers.{answer_of, wrong, count_bytes, measure_refusal, counts_after, read_refusal, opening_by, opening_after, opened_refusal, open_closed_refusal, state_opened, section_by, rows_and_ended, section_answer, state_after, records_after, head_refusal, registers_after}
 use Rattle.lomqashe.proofs.OpeningKept.{opening_kept}
 
--- Measure
--- the counts behind it, by what it answers
-abbrev counts_by : Measured → List ℕ → List ℕ
-counts_by (Found c) counts = count_bytes c
-counts_by (Refused n) counts = counts
+-- what f makes of the value that an answer gives, b beside a refusal
+abbrev by_answer : {A B : Type 0} → (A → B) → B → Result A Refusal → B
+by_answer f b (Ok x) = f x
+by_answer f b (Err r) = b
 
+-- and by the rule that the answer says
+by_said : {A B : Type 0} (m : Result A Refusal) (rule : ℕ) (x : A) (f : A → B) (b : B) → says m ≡ said rule x → by_answer f b m ≡ pick (eqb rule 0) (f x) b
+by_said (Ok y) rule x f b e =
+    let z : rule ≡ 0 = sym (ap (λ (s : Said _). s.number) e) in
+    let v : some y ≡ some x = ap (λ (s : Said _). s.values) e ∙ rw z in
+    let w : y ≡ x = cc in
+    rw z (ap f w)
+by_said (Err r) rule x f b e =
+    let n : number_of r ≡ rule = ap (λ (s : Said _). s.number) e in
+    sym (pick_unequal rule 0 (f x) b (λ z. number_more r (n ∙ z)))
+
+-- Measure
 module _ (file counts : List ℕ) where
   pub measure_wrong : (length counts ≡ 12 → ⊥) → (answer_of wrong 0 ≡ answer_of (measure_refusal file counts) 0) × (counts ≡ counts_after file (measure_refusal file counts) counts)
   unfolding measure_refusal counts_after
@@ -59,21 +70,15 @@ module _ (file counts : List ℕ) where
       let e = pick_unequal (length counts) 12 (measure_rule file) wrong h in
       (ap (λ (r : ℕ). answer_of r 0) (sym e), ap (λ (r : ℕ). pick (eqb r 0) (count_bytes (counts_of file)) counts) (sym e))
 
-  by_rule : counts_by (measured file) counts ≡ counts_after file (measure_rule file) counts
-  unfolding measured counts_after
-  by_rule = by_test (eqb (measure_rule file) 0)
-    where
-      by_test : (b : Bool) → counts_by (pick b (Found (counts_of file)) (Refused (measure_rule file))) counts ≡ pick b (count_bytes (counts_of file)) counts
-      by_test true = refl
-      by_test false = refl
-
-  pub measure_given : {result m : Measured} → result ≡ m → length counts ≡ 12 → result ≡ measured file → measured_says result ≡ said (measure_rule file) (counts_of file)
-      → (answer_of (measured_says m).number 0 ≡ answer_of (measure_refusal file counts) 0) × (counts_by m counts ≡ counts_after file (measure_refusal file counts) counts)
-  unfolding measure_refusal
-  measure_given g h e n =
+  pub measure_given : {result m : Result Counts Refusal} → result ≡ m → length counts ≡ 12 → says result ≡ said (measure_rule file) (counts_of file)
+      → (answer_of (says m).number 0 ≡ answer_of (measure_refusal file counts) 0) × (by_answer count_bytes counts m ≡ counts_after file (measure_refusal file counts) counts)
+  unfolding measure_refusal counts_after
+  measure_given g h n =
       let r = pick_equal (length counts) 12 (measure_rule file) wrong h in
-      let m = ap (λ (s : Said Counts). s.number) (ap measured_says (sym g) ∙ n) in
-      (ap (λ (r : ℕ). answer_of r 0) (m ∙ sym r), ap (λ (m : Measured). counts_by m counts) (sym g ∙ e) ∙ by_rule ∙ ap (λ (r : ℕ). counts_after file r counts) (sym r))
+      let m = ap says (sym g) ∙ n in (
+        ap (λ (r : ℕ). answer_of r 0) (ap (λ (s : Said Counts). s.number) m ∙ sym r),
+        by_said _ (measure_rule file) (counts_of file) count_bytes counts m ∙ ap (λ (r : ℕ). pick (eqb r 0) (count_bytes (counts_of file)) counts) (sym r),
+      )
 
 -- Read
 module _ (file orders samples cells opening : List ℕ) where
@@ -101,19 +106,10 @@ pub kept_opening : (file : List ℕ) (rate : ℕ) (opening : List ℕ) → openi
 unfolding opening_after
 kept_opening file rate opening = refl
 
-pub read_opening : (file : List ℕ) (rate rule : ℕ) (opening : List ℕ) (g : Reading) → g ≡ reading file rate rule → opening_by g.answer g.opening opening ≡ opening_after file rate rule opening
-unfolding reading opening_after
-read_opening file rate rule opening g e = ap (λ (g : Reading). opening_by g.answer g.opening opening) e ∙ by_test (eqb rule 0)
-  where
-    done : Reading
-    done = record { answer = Read.Done; opening = opening_of file rate }
-
-    not_done : Reading
-    not_done = record { answer = Read.Refused rule; opening = blank_opening }
-
-    by_test : (b : Bool) → opening_by (pick b done not_done).answer (pick b done not_done).opening opening ≡ pick b (opening_bytes (opening_of file rate)) opening
-    by_test true = refl
-    by_test false = refl
+pub read_opening : (file : List ℕ) (rate rule : ℕ) (opening : List ℕ) (g : Result Opening Refusal) → says g ≡ said rule (opening_of file rate) → opening_by g opening ≡ opening_after file rate rule opening
+unfolding opening_after
+read_opening file rate rule opening (Ok o) e = by_said (Ok o) rule (opening_of file rate) opening_bytes opening e
+read_opening file rate rule opening (Err r) e = by_said (Err r) rule (opening_of file rate) opening_bytes opening e
 
 -- the bytes that it leaves say the opening values that it gives
 opening_typed : (file : List ℕ) (rate : ℕ) → rate < 2 ^ 32 → TypedOpening (opening_of file rate)
@@ -272,7 +268,7 @@ module _ (registers : List ℕ) (command : ℕ) (row : List ℕ) where
   command_wrong h = rw (lt-ltb 255 command h) (refl, refl)
 
   -- what `step` answers and leaves, by the case of its answer
-  pub head_stepped : {result a : Stepped} {after : List ℕ} → result ≡ a → command ≤ 255 → stepped_says result ≡ step_says registers command row → after ≡ step_registers registers command row
-      → (answer_of (stepped_says a).number 0 ≡ answer_of (head_refusal registers command row) 0) × (after ≡ registers_after registers command row)
+  pub head_stepped : {result a : Result Action Refusal} {after : List ℕ} → result ≡ a → command ≤ 255 → says result ≡ step_says registers command row → after ≡ step_registers registers command row
+      → (answer_of (says a).number 0 ≡ answer_of (head_refusal registers command row) 0) × (after ≡ registers_after registers command row)
   unfolding head_refusal registers_after
-  head_stepped g h e f = rw (le-ltb 255 command h) (ap (λ (s : Said Action). answer_of s.number 0) (ap stepped_says (sym g) ∙ e), f)
+  head_stepped g h e f = rw (le-ltb 255 command h) (ap (λ (s : Said Action). answer_of s.number 0) (ap says (sym g) ∙ e), f)

@@ -1,4 +1,5 @@
 -- A channel that is written and read is the same. Assumes nothing.
+use Rattle.std.specs.Prelude.{None, Option, Some}
 use Prim.Native.Nat.{ℕ, ◌≤◌}
 use mathlib.Core.Path.{◌≡◌, refl, sym, ap, ◌∙◌}
 use mathlib.Core.Bool.{Bool, true, false}
@@ -14,8 +15,6 @@ use mir.Val.{SFits}
 use Rattle.laws.specs.Choice.{pick}
 use Rattle.channel.specs.declared.state.Channel.{Channel}
 use Rattle.channel.specs.declared.state.Oscillator.{Oscillator}
-use Rattle.channel.specs.declared.state.TriggerOption.{TriggerOption}
-use Rattle.channel.specs.declared.state.TriggerOption.TheVariants.{None, Some}
 use Rattle.channel.specs.declared.state.Waveform.{Waveform}
 use Rattle.channel.specs.declared.state.Waveform.TheVariants.{Sine, RampDown, Square, Random}
 use Rattle.tune.proofs.Little.{little_back}
@@ -28,6 +27,7 @@ use Rattle.lomqashe.specs.Channels.{waveform_byte, waveform_of, delay_bytes, flo
 use Rattle.lomqashe.specs.Typed.{TypedChannel}
 use Rattle.lomqashe.proofs.Delays.{delay_listed}
 use Rattle.lomqashe.proofs.ChannelRead.{channel_read}
+use Rattle.channel.specs.declared.state.PendingTrigger.{PendingTrigger}
 
 pub flag_kept : (b : Bool) → b ≡ is_set (flag b)
 flag_kept true = refl
@@ -47,7 +47,7 @@ pub fixed_kept : (f : Fixed) → SFits w8 f.transposition
 fixed_kept f h =
     λ i. record { muted = flag_kept f.muted i; right_bank = flag_kept f.right_bank i; adlib = flag_kept f.adlib i; transposition = sym (signed_back f.transposition h) i }
 
-delay_kept : (t : TriggerOption) → t ≡ pick (eqb (get_or (delay_bytes t) 0 0) 0) None (Some (record { fire_tick = get_or (delay_bytes t) 1 0; note = get_or (delay_bytes t) 2 0; instrument = get_or (delay_bytes t) 3 0; volume = get_or (delay_bytes t) 4 0 }))
+delay_kept : (t : Option PendingTrigger) → t ≡ pick (eqb (get_or (delay_bytes t) 0 0) 0) None (Some (record { fire_tick = get_or (delay_bytes t) 1 0; note = get_or (delay_bytes t) 2 0; instrument = get_or (delay_bytes t) 3 0; volume = get_or (delay_bytes t) 4 0 }))
 delay_kept None = refl
 delay_kept (Some t) = refl
 

@@ -1,4 +1,5 @@
 -- A channel that is read field by field. Assumes nothing.
+use Rattle.std.specs.Prelude.{Option}
 use Prim.Native.Nat.{ℕ}
 use mathlib.Core.Path.{◌≡◌}
 use mathlib.Core.Bool.{Bool}
@@ -7,14 +8,14 @@ use lib.Ieee.{Float, binary32, binary64, of_bits}
 use lib.ListN.{get_or, take, drop}
 use Rattle.tune.specs.Numbers.{little_at}
 use Rattle.tune.specs.declared.opening.Fixed.{Fixed}
-use Rattle.channel.specs.declared.state.TriggerOption.{TriggerOption}
 use Rattle.channel.specs.declared.state.Oscillator.{Oscillator}
 use Rattle.lomqashe.specs.Bytes.{is_set}
 use Rattle.lomqashe.specs.Channels.{delay_at, oscillator_of, fixed_of, channel_of}
+use Rattle.channel.specs.declared.state.PendingTrigger.{PendingTrigger}
 
 module _ (s : List ℕ) where
   -- the fields that a function reads: floats, delay, vibrato, tremolo, memory, flags and fixed values; the others are bytes
-  pub channel_read : {f t p : Float} {d : TriggerOption} {v w : Oscillator} {m : List ℕ} {active glissando frozen : Bool} {x : Fixed}
+  pub channel_read : {f t p : Float} {d : Option PendingTrigger} {v w : Oscillator} {m : List ℕ} {active glissando frozen : Bool} {x : Fixed}
       → f ≡ of_bits binary32 (little_at 4 s 0) → t ≡ of_bits binary32 (little_at 4 s 4) → p ≡ of_bits binary64 (little_at 8 s 8)
       → d ≡ delay_at s 25 → v ≡ oscillator_of s 0 → w ≡ oscillator_of s 1 → m ≡ take 32 (drop 48 s)
       → active ≡ is_set (get_or s 19 0) → glissando ≡ is_set (get_or s 30 0) → frozen ≡ is_set (get_or s 40 0) → x ≡ fixed_of s

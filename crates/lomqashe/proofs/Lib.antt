@@ -2,6 +2,7 @@ pub mod Answered
 pub mod ChannelKept
 pub mod ChannelRead
 pub mod Delays
+pub mod Filled
 pub mod Given
 pub mod Joined
 pub mod Lengths

@@ -1,30 +1,18 @@
 -- Which floats and which bits are a NaN. Assumes nothing.
-use mathlib.Core.Path.{◌≡◌, refl, sym, subst, ap, ◌∙◌}
+use mathlib.Core.Path.{◌≡◌, refl, sym, subst, ◌∙◌}
 use mathlib.Core.Bool.{Bool, true, false, not}
 use Prim.Native.Nat.{ℕ, ◌%◌, ◌≤◌, ◌<◌}
 use borrow.Author.Tests.{le-ltb, lt-ltb}
 use lib.Dec.{T}
-use lib.Ieee.{Float, nan, inf, fin, binary32, binary64, eq, ne, is_nan, of_bits, nan_bits}
+use lib.Ieee.{Float, nan, inf, fin, binary32, binary64, is_nan, of_bits, nan_bits}
 use lib.Ieee.Bits.{nan_bits_above, nan_bits_is}
-use Rattle.section.proofs.Nans.{unequal_nan}
 
--- a float that equals itself
-pub equal_no_nan : (x : Float) → T (eq x x) → T (not (is_nan x))
-unfolding eq is_nan
-equal_no_nan nan h = absurd h
-equal_no_nan (inf s) h = tt
-equal_no_nan (fin s m e) h = tt
-
-only_nan : (x : Float) → is_nan x ≡ true → nan ≡ x
+-- there is one NaN
+pub only_nan : (x : Float) → is_nan x ≡ true → nan ≡ x
 unfolding is_nan
 only_nan nan h = refl
 only_nan (inf s) h = absurd (subst T (sym h) tt)
 only_nan (fin s m e) h = absurd (subst T (sym h) tt)
-
--- a float that does not
-pub unequal : (x : Float) → eq x x ≡ false → nan ≡ x
-unfolding ne
-unequal x h = only_nan x (sym (unequal_nan x) ∙ ap not h)
 
 no : {b : Bool} → b ≡ false → T (not b)
 no h = subst (λ (a : Bool). T (not a)) (sym h) tt

@@ -1,4 +1,5 @@
 -- A state that is written and read is the same. Assumes nothing.
+use Rattle.std.specs.Prelude.{None, Option, Some, unwrap_or}
 use Prim.Native.Nat.{ℕ, ◌+◌, ◌*◌, ◌<◌}
 use mathlib.Core.Path.{◌≡◌, refl, sym, ap, ◌∙◌}
 use mathlib.Core.Bool.{Bool}
@@ -9,9 +10,6 @@ use Rattle.laws.specs.Entries.{tabulate, in_turn}
 use Rattle.laws.proofs.Turns.{turn_drop, turn_length, tabulated}
 use Rattle.tune.proofs.Little.{little_back}
 use Rattle.tune.specs.Numbers.{little_at, bytes_of}
-use Rattle.row_path.specs.Option.{or_before}
-use Rattle.row_path.specs.declared.option.ByteOption.{ByteOption}
-use Rattle.row_path.specs.declared.option.ByteOption.TheVariants.{None, Some}
 use Rattle.row_path.specs.declared.machine.Path.{Path}
 use Rattle.channel.specs.declared.state.Channel.{Channel}
 use Rattle.section.specs.declared.state.State.{State}
@@ -21,7 +19,7 @@ use Rattle.lomqashe.specs.States.{present, option_of, head_bytes, state_bytes, p
 use Rattle.lomqashe.specs.Typed.{Typed}
 use Rattle.lomqashe.proofs.ChannelKept.{flag_kept, channel_kept, channel_size_lem}
 
-option_kept : (o : ByteOption) → o ≡ option_of (present o) (or_before o 0)
+option_kept : (o : Option ℕ) → o ≡ option_of (present o) (unwrap_or o 0)
 option_kept None = refl
 option_kept (Some n) = refl
 
@@ -30,7 +28,7 @@ unfolding head_bytes bytes_of
 head_length s = refl
 
 -- a path that is read field by field: options, flags, rate, start, remainder and S infos; the others are bytes
-path_read : (s : List ℕ) {o k : ByteOption} {held ended : Bool} {rate start remainder : ℕ} {infos : List ℕ}
+path_read : (s : List ℕ) {o k : Option ℕ} {held ended : Bool} {rate start remainder : ℕ} {infos : List ℕ}
     → o ≡ option_of (get_or s 2 0) (get_or s 3 0) → k ≡ option_of (get_or s 4 0) (get_or s 5 0) → held ≡ is_set (get_or s 8 0) → ended ≡ is_set (get_or s 9 0)
     → rate ≡ little_at 4 s 16 → start ≡ little_at 8 s 24 → remainder ≡ little_at 2 s 20 → infos ≡ take 32 (drop 32 s)
     → record {

@@ -1,5 +1,5 @@
 -- What the calls answer, and what they leave in the lent bytes. Assumes nothing.
-use Rattle.std.specs.Prelude.{ℕ, ◌+◌, ◌*◌, ◌^◌, Bool, List, ◌++◌, eqb, ltb, length}
+use Rattle.std.specs.Prelude.{Result, Ok, Err, ℕ, ◌+◌, ◌*◌, ◌^◌, Bool, List, ◌++◌, eqb, ltb, length}
 use Rattle.std.proofs.Math.Option.{Option, none, some}
 use Rattle.laws.specs.Choice.{pick}
 use Rattle.laws.specs.Refusals.{Said}
@@ -8,14 +8,13 @@ use Rattle.s3m.specs.Opening.{opening_of}
 use Rattle.s3m.specs.Refusals.{measure_rule}
 use Rattle.s3m.specs.Answers.{refusal_of}
 use Rattle.s3m.specs.declared.header.Counts.{Counts}
-use Rattle.s3m.specs.declared.ReadAnswer.{ReadAnswer}
+use Rattle.tune.specs.declared.rules.Refusal.{Refusal}
 use Rattle.tune.specs.declared.opening.Opening.{Opening}
 use Rattle.section.specs.Tables.{Tables}
 use Rattle.tune.specs.Numbers.{bytes_of, flag}
 use Rattle.section.specs.Open.{fresh_state, open_rule}
 use Rattle.section.specs.Section.{section_of, sectioned, output_after}
-use Rattle.section.specs.declared.state.Sectioned.{Sectioned}
-use Rattle.s3m.specs.declared.ReadAnswer.TheVariants as Read
+use Rattle.section.specs.Section.{Sectioned}
 use Rattle.closed.specs.Answers.{open_closed_rule}
 use Rattle.punch_head.specs.Registers.{head_rule}
 use Rattle.punch_head.specs.Steps.{step_registers}
@@ -49,9 +48,9 @@ unfoldable pub read_refusal : List ℕ → List ℕ → List ℕ → List ℕ �
 read_refusal file orders samples cells opening = pick (eqb (length opening) opening_size) (refusal_of file orders samples cells) wrong
 
 -- the lent opening values behind it, by what Read answers
-abbrev pub opening_by : ReadAnswer → Opening → List ℕ → List ℕ
-opening_by Read.Done o opening = opening_bytes o
-opening_by (Read.Refused x) o opening = opening
+abbrev pub opening_by : Result Opening Refusal → List ℕ → List ℕ
+opening_by (Ok o) opening = opening_bytes o
+opening_by (Err r) opening = opening
 
 -- and by the refusal; the tables are `orders_after`, `samples_after` and `cells_after` of that refusal
 unfoldable pub opening_after : List ℕ → ℕ → ℕ → List ℕ → List ℕ

@@ -4,7 +4,7 @@
 -- tremor on and off counters, 36 stored volume, 37 and 38 vibrato and tremolo kept over a new note, 39 muted, 40 frozen, 41 right
 -- bank, 42 AdLib, 43 AdLib voice, 44 voice global volume, 45 transposition, a signed byte, 46 and 47 spare, 48 to 79 effect
 -- memory. Assumes nothing.
-use Rattle.std.specs.Prelude.{ℕ, ◌+◌, ◌%◌, List, [], ◌∷◌, ◌++◌, eqb, get_or, take, drop}
+use Rattle.std.specs.Prelude.{ℕ, ◌+◌, ◌%◌, List, [], ◌∷◌, ◌++◌, eqb, get_or, take, drop, None, Option, Some}
 use Rattle.std.specs.Float.{binary32, binary64}
 use Rattle.std.specs.Float.Ieee.{of_bits, to_bits}
 use Rattle.laws.specs.Choice.{pick}
@@ -13,11 +13,10 @@ use Rattle.tune.specs.Transposition.{signed_byte, signed_of}
 use Rattle.tune.specs.declared.opening.Fixed.{Fixed}
 use Rattle.channel.specs.declared.state.Channel.{Channel}
 use Rattle.channel.specs.declared.state.Oscillator.{Oscillator}
-use Rattle.channel.specs.declared.state.TriggerOption.{TriggerOption}
-use Rattle.channel.specs.declared.state.TriggerOption.TheVariants.{None, Some}
 use Rattle.channel.specs.declared.state.Waveform.{Waveform}
 use Rattle.channel.specs.declared.state.Waveform.TheVariants.{Sine, RampDown, Square, Random}
 use Rattle.lomqashe.specs.Bytes.{is_set}
+use Rattle.channel.specs.declared.state.PendingTrigger.{PendingTrigger}
 
 -- 0 sine, 1 ramp down, 2 square, 3 random
 abbrev pub waveform_byte : Waveform → ℕ
@@ -31,11 +30,11 @@ abbrev pub waveform_of : ℕ → Waveform
 waveform_of b = pick (eqb (b % 4) 0) Sine (pick (eqb (b % 4) 1) RampDown (pick (eqb (b % 4) 2) Square Random))
 
 -- whether a cell is put off, and its tick, note, instrument and volume, 0 where none is
-abbrev pub delay_bytes : TriggerOption → List ℕ
+abbrev pub delay_bytes : Option PendingTrigger → List ℕ
 delay_bytes None = 0 ∷ 0 ∷ 0 ∷ 0 ∷ 0 ∷ []
 delay_bytes (Some t) = 1 ∷ t.fire_tick ∷ t.note ∷ t.instrument ∷ t.volume ∷ []
 
-abbrev pub delay_at : List ℕ → ℕ → TriggerOption
+abbrev pub delay_at : List ℕ → ℕ → Option PendingTrigger
 delay_at s at =
     pick (eqb (get_or s at 0) 0) None
     (Some (record { fire_tick = get_or s (at + 1) 0; note = get_or s (at + 2) 0; instrument = get_or s (at + 3) 0; volume = get_or s (at + 4) 0 }))
@@ -46,16 +45,23 @@ float_bytes c =
     bytes_of 4 (to_bits binary32 c.frequency)
     ++ (bytes_of 4 (to_bits binary32 c.target_frequency) ++ bytes_of 8 (to_bits binary64 c.sample_pos))
 
--- bytes 16 to 47
-unfoldable pub field_bytes : Channel → List ℕ
-field_bytes c =
-    c.instrument ∷ c.volume ∷ c.pan ∷ flag c.active ∷ c.command ∷ c.info ∷ c.vibrato.pos ∷ c.tremolo.pos ∷ c.last_note
-    ∷ (delay_bytes c.pending_delay
-    ++ (flag c.glissando ∷ waveform_byte c.vibrato.waveform ∷ waveform_byte c.tremolo.waveform
+-- bytes 16 to 24
+abbrev pub first_fields : Channel → List ℕ
+first_fields c =
+    c.instrument ∷ c.volume ∷ c.pan ∷ flag c.active ∷ c.command ∷ c.info ∷ c.vibrato.pos ∷ c.tremolo.pos ∷ c.last_note ∷ []
+
+-- bytes 30 to 47
+abbrev pub last_fields : Channel → List ℕ
+last_fields c =
+    flag c.glissando ∷ waveform_byte c.vibrato.waveform ∷ waveform_byte c.tremolo.waveform
     ∷ c.retrig_counter ∷ c.tremor.on_counter ∷ c.tremor.off_counter ∷ c.stored_volume
     ∷ flag c.vibrato.keep_pos_on_new_note ∷ flag c.tremolo.keep_pos_on_new_note
     ∷ flag c.fixed.muted ∷ flag c.frozen ∷ flag c.fixed.right_bank ∷ flag c.fixed.adlib
-    ∷ c.opl_voice ∷ c.voice_global_vol ∷ signed_byte c.fixed.transposition ∷ 0 ∷ 0 ∷ []))
+    ∷ c.opl_voice ∷ c.voice_global_vol ∷ signed_byte c.fixed.transposition ∷ 0 ∷ 0 ∷ []
+
+-- bytes 16 to 47
+unfoldable pub field_bytes : Channel → List ℕ
+field_bytes c = first_fields c ++ (delay_bytes c.pending_delay ++ last_fields c)
 
 unfoldable pub channel_bytes : Channel → List ℕ
 channel_bytes c = float_bytes c ++ (field_bytes c ++ c.effect_memory)

@@ -32,11 +32,15 @@ fixed_at s at transposition =
 unfoldable pub setting_at : List ℕ → ℕ → ℕ → ChannelOpening
 setting_at s at transposition = record { pan = get_or s at 0; fixed = fixed_at s at transposition }
 
+-- bytes 0 to 7
+abbrev pub field_bytes : Opening → List ℕ
+field_bytes o = o.speed ∷ o.tempo ∷ o.global_volume ∷ flag o.amiga_limits ∷ flag o.fast_slides ∷ 0 ∷ 0 ∷ 0 ∷ []
+
 -- the 16 bytes before them
 unfoldable pub level_bytes : Opening → List ℕ
 level_bytes o =
-    o.speed ∷ o.tempo ∷ o.global_volume ∷ flag o.amiga_limits ∷ flag o.fast_slides ∷ 0 ∷ 0 ∷ 0
-    ∷ (bytes_of 4 o.rate ++ (0 ∷ 0 ∷ 0 ∷ 0 ∷ []))
+    field_bytes o
+    ++ (bytes_of 4 o.rate ++ (0 ∷ 0 ∷ 0 ∷ 0 ∷ []))
 
 unfoldable pub opening_bytes : Opening → List ℕ
 opening_bytes o = level_bytes o ++ (in_turn setting_bytes o.channels ++ map transposition_byte o.channels)

@@ -12,70 +12,74 @@ pub mod state;
 ghost use Rattle.std.specs.Prelude.{◌≡◌, ◌+◌, ◌*◌, ◌<◌, eqb, length};
 ghost use Rattle.laws.specs.Choice.{pick};
 ghost use Rattle.s3m.specs.Opening.{opening_of};
-ghost use Rattle.s3m.specs.Answers.{read_says, orders_after, samples_after, cells_after};
+ghost use Rattle.s3m.specs.Answers.{orders_after, samples_after, cells_after};
 ghost use Rattle.section.specs.Tables.{lent};
 ghost use Rattle.tune.specs.Numbers.{flag};
-ghost use Rattle.section.specs.Open.{fresh_state};
+ghost use Rattle.tune.specs.Rules.{number_of, says};
+ghost use Rattle.section.specs.Open.{fresh_state, opened};
 ghost use Rattle.closed.specs.Answers.{is_closed_says};
 ghost use Rattle.closed.specs.Ends.{most_rows, EndsWithin};
 ghost use Rattle.sheet.specs.Strikes.{strikes_say, strikes_output};
 ghost use Rattle.sheet.specs.Lines.{line_says, line_output};
-ghost use Rattle.columns.specs.Answers.{stored_says, columns_say, store_output, restore_output};
+ghost use Rattle.columns.specs.Answers.{columns_say, store_output, restore_output};
 ghost use Rattle.lomqashe.specs.Openings.{opening_at};
 ghost use Rattle.lomqashe.specs.States.{state_bytes, state_of};
 ghost use Rattle.lomqashe.specs.Answers.{answer_of, count_bytes, measure_refusal, counts_after, read_refusal, opening_by, opening_after, open_refusal, open_closed_refusal, state_opened, closed_in_one, section_by, section_answer, state_after, records_after, in_one, nothing_in_one, head_refusal, registers_after};
 
-use closed::answer::{ClosedAnswer, is_closed, open_closed};
-use columns::rule::Stored;
+use closed::answer::{is_closed, open_closed};
 use columns::{restore, store};
-use opening::{opening_of, put_opening};
-use punch_head::{Stepped, step};
-use s3m::header::{Counts, Measured, measure};
-use s3m::{ReadAnswer, read};
+use numbers::put_block;
+use opening::{OpeningBytes, opening_of, put_opening};
+use punch_head::step;
+use s3m::header::{Counts, measure};
+use s3m::read;
 use section::open::open;
-use section::state::Opened;
+use section::state::State;
 use section::walk::section;
-use sheet::answer::Answer;
 use sheet::line::line;
 use sheet::strikes::strikes;
-use state::{put_state, state_of};
-use tune::numbers::u64_bytes;
+use state::{StateBytes, put_state, state_of};
 use tune::opening::Opening;
-use tune::parts::copy_whole;
+use tune::rules::Refusal;
+use tune::sizes::Tables;
 
 // The answer where a length at this border is wrong, or a command no byte.
 const WRONG: u32 = 0xFF00_0000;
 
-fn refused(rule: u8) -> u32
-    ensures { result ≡ answer_of rule 0 }
+fn refused(refusal: Refusal) -> u32
+    ensures { result ≡ answer_of (number_of refusal) 0 }
 {
-    rule as u32 * 0x100_0000
+    u32::from(refusal.number()) * 0x100_0000
 }
 
-fn done(n: u8) -> u32
-    ensures { result ≡ answer_of 0 n }
+// A call's answer that gives a number.
+fn in_one(answer: Result<u8, Refusal>) -> u32
+    ensures { result ≡ in_one (says answer) }
 {
-    n as u32
+    match answer {
+        Ok(n) => u32::from(n),
+        Err(refusal) => refused(refusal),
+    }
 }
 
-// The low 32 bits of each number.
-fn count_bytes(c: Counts) -> [u8; 12]
-    ensures { result ≡ count_bytes c }
+// A call's answer that gives nothing.
+fn nothing_in_one(answer: Result<(), Refusal>) -> u32
+    ensures { result ≡ nothing_in_one (says answer) }
 {
-    let o = u64_bytes(c.orders as u64);
-    let i = u64_bytes(c.instruments as u64);
-    let p = u64_bytes(c.patterns as u64);
-    [
-        o[0], o[1], o[2], o[3], i[0], i[1], i[2], i[3], p[0], p[1], p[2], p[3],
-    ]
+    match answer {
+        Ok(()) => 0,
+        Err(refusal) => refused(refusal),
+    }
 }
 
+// 32 bits for each number.
 fn put_counts(out: &mut [u8], c: Counts)
     requires { length out.old ≡ 12 }
     ensures { out.new ≡ count_bytes c }
 {
-    let bytes = count_bytes(c);
-    copy_whole(out, &bytes);
+    put_block(out, 0, u32::from(c.orders).to_le_bytes());
+    put_block(out, 4, u32::from(c.instruments).to_le_bytes());
+    put_block(out, 8, u32::from(c.patterns).to_le_bytes());
 }
 
 // Measure: the numbers of orders, instruments and patterns in 12 bytes, 32 bits each.
@@ -88,25 +92,25 @@ pub extern "C" fn lomqashe_measure(file: &[u8], counts: &mut [u8]) -> u32
         return WRONG;
     }
     match measure(file) {
-        Measured::Found(c) => {
+        Ok(c) => {
             put_counts(counts, c);
             0
-        },
-        Measured::Refused(rule) => refused(rule),
+        }
+        Err(refusal) => refused(refusal),
     }
 }
 
-fn answer_read(answer: ReadAnswer, opening: &mut [u8], o: Opening) -> u32
-    requires { length opening.old ≡ 176 }
-    ensures answer { result ≡ answer_of (read_says answer o).number 0 }
-    ensures written { opening.new ≡ opening_by answer o opening.old }
+// The answer of Read in one number, and its opening values where it does not refuse.
+fn answer_read(answer: Result<Opening, Refusal>, opening: &mut OpeningBytes) -> u32
+    ensures answer { result ≡ answer_of (says answer).number 0 }
+    ensures written { opening.new ≡ opening_by answer opening.old }
 {
     match answer {
-        ReadAnswer::Done => {
+        Ok(o) => {
             put_opening(opening, o);
             0
-        },
-        ReadAnswer::Refused(rule) => refused(rule),
+        }
+        Err(rule) => refused(rule),
     }
 }
 
@@ -130,25 +134,23 @@ pub extern "C" fn lomqashe_read(
     if opening.len() != 176 {
         return WRONG;
     }
-    let given = read(file, rate, orders, samples, cells);
-    let answer = given.answer;
-    let o = given.opening;
-    answer_read(answer, opening, o)
+    let answer = read(file, rate, orders, samples, cells);
+    answer_read(answer, opening.as_mut_array().unwrap())
 }
 
-// The answer of Open in one number, and its state in 2,624 bytes where it does not refuse.
-fn answer_opened(opened: Opened, state: &mut [u8]) -> u32
-    requires { length state.old ≡ 2624 }
-    ensures answer { result ≡ answer_of opened.refusal 0 }
-    ensures written { state.new ≡ pick (eqb opened.refusal 0) (state_bytes opened.state) state.old }
-    ensures kept { opened.refusal ≡ 0 → state_of state.new ≡ opened.state }
+// The answer of Open in one number, and its state where it does not refuse.
+fn answer_opened(answer: Result<State, Refusal>, state: &mut StateBytes) -> u32
+    ensures answer { result ≡ answer_of (opened answer).refusal 0 }
+    ensures written { state.new ≡ pick (eqb (opened answer).refusal 0) (state_bytes (opened answer).state) state.old }
+    ensures kept { (opened answer).refusal ≡ 0 → state_of state.new ≡ (opened answer).state }
 {
-    if opened.refusal != 0 {
-        return refused(opened.refusal);
+    match answer {
+        Ok(s) => {
+            put_state(state, s);
+            0
+        }
+        Err(broken) => refused(broken),
     }
-    let s = opened.state;
-    put_state(state, s);
-    0
 }
 
 // Open: the fresh state in 2,624 bytes.
@@ -170,7 +172,13 @@ pub extern "C" fn lomqashe_open(
     if state.len() != 2624 {
         return WRONG;
     }
-    answer_opened(open(orders, cells, samples, opening_of(opening)), state)
+    let tables = Tables {
+        orders,
+        cells,
+        samples,
+    };
+    let o = opening_of(opening.as_array().unwrap());
+    answer_opened(open(tables, o), state.as_mut_array().unwrap())
 }
 
 // Whether a tune is closed: gives 1 where it is, 0 where it is not.
@@ -178,10 +186,14 @@ pub extern "C" fn lomqashe_open(
 pub extern "C" fn lomqashe_is_closed(orders: &[u8], cells: &[u8], samples: &[u8]) -> u32
     ensures { result ≡ closed_in_one (is_closed_says (lent orders.now cells.now samples.now)) }
 {
-    match is_closed(orders, cells, samples) {
-        ClosedAnswer::Yes => 1,
-        ClosedAnswer::No => 0,
-        ClosedAnswer::Refused(rule) => refused(rule),
+    let tables = Tables {
+        orders,
+        cells,
+        samples,
+    };
+    match is_closed(tables) {
+        Ok(closed) => u32::from(closed),
+        Err(refusal) => refused(refusal),
     }
 }
 
@@ -206,10 +218,13 @@ pub extern "C" fn lomqashe_open_closed(
     if state.len() != 2624 {
         return WRONG;
     }
-    answer_opened(
-        open_closed(orders, cells, samples, opening_of(opening)),
-        state,
-    )
+    let tables = Tables {
+        orders,
+        cells,
+        samples,
+    };
+    let o = opening_of(opening.as_array().unwrap());
+    answer_opened(open_closed(tables, o), state.as_mut_array().unwrap())
 }
 
 // What Section gives: the rows in bits 0 to 15, whether the tune has ended in bit 16.
@@ -238,13 +253,19 @@ pub extern "C" fn lomqashe_section(
     if state.len() != 2624 {
         return WRONG;
     }
-    let given = section(orders, cells, samples, state_of(state), n, output);
-    if given.refusal != 0 {
-        return refused(given.refusal);
+    let tables = Tables {
+        orders,
+        cells,
+        samples,
+    };
+    let s = state_of(state.as_array().unwrap());
+    match section(tables, s, n, output) {
+        Ok(given) => {
+            put_state(state.as_mut_array().unwrap(), given.state);
+            rows_and_ended(given.rows, given.ended)
+        }
+        Err(refusal) => refused(refusal),
     }
-    let s = given.state;
-    put_state(state, s);
-    rows_and_ended(given.rows, given.ended)
 }
 
 // Strikes: gives the number of struck channels, which are listed from the lowest frequency up.
@@ -253,10 +274,7 @@ pub extern "C" fn lomqashe_strikes(row: &[u8], out: &mut [u8]) -> u32
     ensures answer { result ≡ in_one (strikes_say row.now out.old) }
     ensures written { out.new ≡ strikes_output row.now out.old }
 {
-    match strikes(row, out) {
-        Answer::Done(channels) => done(channels),
-        Answer::Refused(rule) => refused(rule),
-    }
+    in_one(strikes(row, out))
 }
 
 // Line: gives the number of bytes written.
@@ -265,10 +283,7 @@ pub extern "C" fn lomqashe_line(row: &[u8], out: &mut [u8]) -> u32
     ensures answer { result ≡ in_one (line_says row.now out.old) }
     ensures written { out.new ≡ line_output row.now out.old }
 {
-    match line(row, out) {
-        Answer::Done(bytes) => done(bytes),
-        Answer::Refused(number) => refused(number),
-    }
+    in_one(line(row, out))
 }
 
 // The punch head's step: the sixteen registers are read and written.
@@ -281,18 +296,8 @@ pub extern "C" fn lomqashe_head_step(registers: &mut [u8], command: u32, row: &[
         return WRONG;
     }
     match step(registers, command as u8, row) {
-        Stepped::Done(_) => 0,
-        Stepped::Refused(rule) => refused(rule),
-    }
-}
-
-// What Store and Restore answer, in one number.
-fn stored_in_one(answer: Stored) -> u32
-    ensures { result ≡ nothing_in_one (stored_says answer) }
-{
-    match answer {
-        Stored::Done => 0,
-        Stored::Refused(rule) => refused(rule),
+        Ok(_) => 0,
+        Err(refusal) => refused(refusal),
     }
 }
 
@@ -302,7 +307,7 @@ pub extern "C" fn lomqashe_store(records: &[u8], m: u32, columns: &mut [u8]) -> 
     ensures answer { result ≡ nothing_in_one (columns_say records.now m columns.old) }
     ensures written { columns.new ≡ store_output records.now m columns.old }
 {
-    stored_in_one(store(records, m, columns))
+    nothing_in_one(store(records, m, columns))
 }
 
 // Restore: the m records of such columns.
@@ -311,5 +316,5 @@ pub extern "C" fn lomqashe_restore(columns: &[u8], m: u32, records: &mut [u8]) -
     ensures answer { result ≡ nothing_in_one (columns_say columns.now m records.old) }
     ensures written { records.new ≡ restore_output columns.now m records.old }
 {
-    stored_in_one(restore(columns, m, records))
+    nothing_in_one(restore(columns, m, records))
 }

@@ -3,100 +3,75 @@
 // fast slides, 15 spare, 16 to 19 rate, 20 and 21 remainder, 22 and 23 spare, 24 to 31 start, 32 to 63 the S infos. Then
 // 32 channels of 80.
 ghost use Rattle.std.specs.Prelude.{◌≡◌, length};
-ghost use Rattle.lomqashe.specs.States.{option_of, head_bytes, state_bytes, path_of, state_of};
+ghost use Rattle.lomqashe.specs.States.{option_of, field_bytes, state_bytes, path_of, state_of};
 ghost use Rattle.lomqashe.specs.States as spec;
 
 use crate::channels::{channels_of, put_channels};
-use crate::numbers::{bytes_at, is_set, put_block};
+use crate::numbers::put_block;
 use channel::state::Switches;
 use row_path::loops::{PatternLoop, Place};
 use row_path::machine::{Clock, Hold, Path};
-use row_path::option::{ByteOption, or_before};
 use section::state::State;
-use tune::numbers::{flag_of, u16_at, u16_bytes, u32_at, u32_bytes, u64_at, u64_bytes};
+use tune::numbers::{bytes_at, u16_at, u32_at, u64_at};
 
-fn present(o: ByteOption) -> u8
+// The bytes of a state.
+pub type StateBytes = [u8; 2624];
+
+fn present(o: Option<u8>) -> u8
     ensures { result ≡ spec.present o }
 {
-    match o {
-        ByteOption::None => 0,
-        ByteOption::Some(n) => 1,
-    }
+    u8::from(o.is_some())
 }
 
-fn option_of(there: u8, n: u8) -> ByteOption
+fn option_of(there: u8, n: u8) -> Option<u8>
     ensures { result ≡ option_of there n }
 {
-    if there == 0 {
-        return ByteOption::None;
-    }
-    ByteOption::Some(n)
+    (there != 0).then_some(n)
 }
 
-// Bytes 0 to 31 of the head.
-fn head_bytes(s: State) -> [u8; 32]
-    ensures { result ≡ head_bytes s }
+// Bytes 0 to 15.
+fn field_bytes(s: &State) -> [u8; 16]
+    ensures { result ≡ field_bytes s.now }
 {
     let path = s.path;
-    let l = path.pattern_loop;
-    let lo = l.order;
-    let count = l.count;
-    let r = u32_bytes(path.clock.rate);
-    let m = u16_bytes(path.clock.remainder);
-    let t = u64_bytes(path.clock.start);
+    let order = path.pattern_loop.order;
+    let count = path.pattern_loop.count;
     [
         path.place.order,
         path.place.row,
-        present(lo),
-        or_before(lo, 0),
+        present(order),
+        order.unwrap_or(0),
         present(count),
-        or_before(count, 0),
+        count.unwrap_or(0),
         path.pattern_loop.start_row,
         path.hold.left,
-        flag_of(path.hold.held),
-        flag_of(path.ended),
+        u8::from(path.hold.held),
+        u8::from(path.ended),
         path.clock.speed,
         path.clock.tempo,
         s.global_volume,
-        flag_of(s.switches.amiga_limits),
-        flag_of(s.switches.fast_slides),
+        u8::from(s.switches.amiga_limits),
+        u8::from(s.switches.fast_slides),
         0,
-        r[0],
-        r[1],
-        r[2],
-        r[3],
-        m[0],
-        m[1],
-        0,
-        0,
-        t[0],
-        t[1],
-        t[2],
-        t[3],
-        t[4],
-        t[5],
-        t[6],
-        t[7],
     ]
 }
 
 // The bytes of a state, from which it can be read again.
-pub fn put_state(state: &mut [u8], s: State)
-    requires { length state.old ≡ 2624 }
+pub fn put_state(state: &mut StateBytes, s: State)
     ensures written { state.new ≡ state_bytes s }
     ensures kept { state_of (state_bytes s) ≡ s }
 {
-    let head = head_bytes(s);
-    let path = s.path;
-    let infos = path.s_info;
-    let channels = s.channels;
-    put_block(state, 0, head);
-    put_block(state, 32, infos);
-    put_channels(state, channels);
+    let clock = s.path.clock;
+    put_block(state, 0, field_bytes(&s));
+    put_block(state, 16, clock.rate.to_le_bytes());
+    put_block(state, 20, clock.remainder.to_le_bytes());
+    put_block(state, 22, [0, 0]);
+    put_block(state, 24, clock.start.to_le_bytes());
+    put_block(state, 32, s.path.s_info);
+    put_channels(state, &s.channels);
 }
 
-fn path_of(s: &[u8]) -> Path
-    requires { length s.now ≡ 2624 }
+fn path_of(s: &StateBytes) -> Path
     ensures { result ≡ path_of s.now }
 {
     let infos = bytes_at(s, 32);
@@ -114,7 +89,7 @@ fn path_of(s: &[u8]) -> Path
         },
         hold: Hold {
             left: s[7],
-            held: is_set(s[8]),
+            held: s[8] != 0,
         },
         clock: Clock {
             speed: s[10],
@@ -123,19 +98,18 @@ fn path_of(s: &[u8]) -> Path
             start: u64_at(s, 24),
             remainder: u16_at(s, 20) as u16,
         },
-        ended: is_set(s[9]),
+        ended: s[9] != 0,
         s_info: infos,
     }
 }
 
 // Every 2,624 bytes are some state.
-pub fn state_of(s: &[u8]) -> State
-    requires { length s.now ≡ 2624 }
+pub fn state_of(s: &StateBytes) -> State
     ensures { result ≡ state_of s.now }
 {
     let switches = Switches {
-        amiga_limits: is_set(s[13]),
-        fast_slides: is_set(s[14]),
+        amiga_limits: s[13] != 0,
+        fast_slides: s[14] != 0,
     };
     State {
         path: path_of(s),

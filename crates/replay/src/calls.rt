@@ -1,59 +1,106 @@
-// The functions by their numbers in the list: an arm with the call and an arm with the name for each.
+// The functions by their numbers in the list.
+use crate::input::Misread;
 use lomqashe::{
     lomqashe_head_step, lomqashe_is_closed, lomqashe_line, lomqashe_measure, lomqashe_open,
     lomqashe_open_closed, lomqashe_read, lomqashe_restore, lomqashe_section, lomqashe_store,
     lomqashe_strikes,
 };
-use std::io;
+use std::fmt;
 
-// In place of an answer where there is no such function: no answer that has 255 in its high byte has more in the others.
-pub const UNKNOWN: u32 = 0xFFFF_FFFF;
+#[derive(Clone, Copy, Debug, PartialEq, Eq)]
+pub enum Function {
+    Measure = 1,
+    Read = 2,
+    Open = 3,
+    Section = 4,
+    Strikes = 5,
+    Line = 6,
+    IsClosed = 7,
+    OpenClosed = 8,
+    HeadStep = 9,
+    Store = 10,
+    Restore = 11,
+}
 
-// The slots are the slices of the function, in the order of its arguments.
-pub fn call(
-    function: u32,
-    number: u32,
-    s0: &mut [u8],
-    s1: &mut [u8],
-    s2: &mut [u8],
-    s3: &mut [u8],
-    s4: &mut [u8],
-) -> u32 {
-    match function {
-        1 => lomqashe_measure(s0, s1),
-        2 => lomqashe_read(s0, number, s1, s2, s3, s4),
-        3 => lomqashe_open(s0, s1, s2, s3, s4),
-        4 => lomqashe_section(s0, s1, s2, s3, number, s4),
-        5 => lomqashe_strikes(s0, s1),
-        6 => lomqashe_line(s0, s1),
-        7 => lomqashe_is_closed(s0, s1, s2),
-        8 => lomqashe_open_closed(s0, s1, s2, s3, s4),
-        9 => lomqashe_head_step(s0, number, s1),
-        10 => lomqashe_store(s0, number, s1),
-        11 => lomqashe_restore(s0, number, s1),
-        _ => UNKNOWN,
+// In the order of their numbers.
+pub const FUNCTIONS: [Function; 11] = [
+    Function::Measure,
+    Function::Read,
+    Function::Open,
+    Function::Section,
+    Function::Strikes,
+    Function::Line,
+    Function::IsClosed,
+    Function::OpenClosed,
+    Function::HeadStep,
+    Function::Store,
+    Function::Restore,
+];
+
+impl TryFrom<u32> for Function {
+    type Error = Misread;
+
+    fn try_from(number: u32) -> Result<Function, Misread> {
+        match number {
+            1 => Ok(Function::Measure),
+            2 => Ok(Function::Read),
+            3 => Ok(Function::Open),
+            4 => Ok(Function::Section),
+            5 => Ok(Function::Strikes),
+            6 => Ok(Function::Line),
+            7 => Ok(Function::IsClosed),
+            8 => Ok(Function::OpenClosed),
+            9 => Ok(Function::HeadStep),
+            10 => Ok(Function::Store),
+            11 => Ok(Function::Restore),
+            _ => Err(Misread),
+        }
     }
 }
 
-fn print(rt: &impl Print, name: &[u8]) -> io::Result<bool> {
-    rt.write_all(name)?;
-    Ok(true)
+impl fmt::Display for Function {
+    fn fmt<W: fmt::Write>(&self, f: &mut fmt::Formatter<W>) -> fmt::Result {
+        let name = match self {
+            Function::Measure => "measure",
+            Function::Read => "read",
+            Function::Open => "open",
+            Function::Section => "section",
+            Function::Strikes => "strikes",
+            Function::Line => "line",
+            Function::IsClosed => "is_closed",
+            Function::OpenClosed => "open_closed",
+            Function::HeadStep => "head_step",
+            Function::Store => "store",
+            Function::Restore => "restore",
+        };
+        f.write_str(name)
+    }
 }
 
-// False where there is no such function.
-pub fn print_name(rt: &impl Print, function: usize) -> io::Result<bool> {
-    match function {
-        1 => print(rt, b"measure"),
-        2 => print(rt, b"read"),
-        3 => print(rt, b"open"),
-        4 => print(rt, b"section"),
-        5 => print(rt, b"strikes"),
-        6 => print(rt, b"line"),
-        7 => print(rt, b"is_closed"),
-        8 => print(rt, b"open_closed"),
-        9 => print(rt, b"head_step"),
-        10 => print(rt, b"store"),
-        11 => print(rt, b"restore"),
-        _ => Ok(false),
+// What a call is lent: the slices of the function, in the order of its arguments. (An array of `&mut` gets no proof.)
+pub struct Lent<'a> {
+    pub s0: &'a mut [u8],
+    pub s1: &'a mut [u8],
+    pub s2: &'a mut [u8],
+    pub s3: &'a mut [u8],
+    pub s4: &'a mut [u8],
+}
+
+impl Function {
+    pub fn call(self, number: u32, lent: Lent) -> u32 {
+        let Lent { s0, s1, s2, s3, s4 } = lent;
+        match self {
+            Function::Measure => lomqashe_measure(s0, s1),
+            Function::Read => lomqashe_read(s0, number, s1, s2, s3, s4),
+            Function::Open => lomqashe_open(s0, s1, s2, s3, s4),
+            Function::Section => lomqashe_section(s0, s1, s2, s3, number, s4),
+            Function::Strikes => lomqashe_strikes(s0, s1),
+            Function::Line => lomqashe_line(s0, s1),
+            Function::IsClosed => lomqashe_is_closed(s0, s1, s2),
+            Function::OpenClosed => lomqashe_open_closed(s0, s1, s2, s3, s4),
+            Function::HeadStep => lomqashe_head_step(s0, number, s1),
+            Function::Store => lomqashe_store(s0, number, s1),
+            Function::Restore => lomqashe_restore(s0, number, s1),
+        }
     }
 }

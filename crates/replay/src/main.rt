@@ -10,11 +10,12 @@ mod tally;
 
 use std::fs::File;
 use std::io;
+use tally::Tally;
 
 fn main(rt: HostRuntime) -> io::Result<()> {
     let mut list = File::open(&rt, "calls")?;
-    let mut counters = tally::counters();
-    let counts: &mut [u64] = &mut counters;
-    let whole = cases::run(&mut list, counts);
-    tally::print(&rt, counts, whole)
+    let mut tally = Tally::new();
+    let read = cases::run(&mut list, &mut tally);
+    tally.print(&rt)?;
+    println!(rt; "misread: {}", u8::from(read.is_err()))
 }

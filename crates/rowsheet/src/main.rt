@@ -6,56 +6,34 @@ mod rows;
 
 ghost use Rattle.std.specs.Prelude.{◌≡◌, ◌*◌, ◌≤◌, length, IfOk};
 
-use rows::{print_refused, print_text, print_tune};
-use s3m::header::{Counts, Measured, measure};
-use s3m::{ReadAnswer, read};
+use rows::{print_refused, print_tune};
+use s3m::header::{Counts, measure};
+use s3m::read;
 use std::io;
 use std::io::Read;
+use tune::sizes::Tables;
 
 // The card rate, in micrometres a second.
 const RATE: u32 = 60000;
 
 // More patterns are refused with 0: their cells would not fit on the stack.
-const PATTERNS: usize = 6;
+const PATTERNS: u16 = 6;
 
-// Room for the file and its tables. The contracts give the lengths alone: the zeros would stand in each goal.
-fn file_room() -> [u8; 65536]
-    ensures { 65536 ≡ length result }
+// Room for what is read. The contract gives the length alone: the zeros would stand in each goal.
+fn room<const N: usize>() -> [u8; N]
+    ensures { length result ≡ N }
 {
-    [0; 65536]
+    [0; N]
 }
 
-fn orders_room() -> [u8; 255]
-    ensures { 255 ≡ length result }
-{
-    [0; 255]
-}
-
-fn samples_room() -> [u8; 1980]
-    ensures { 1980 ≡ length result }
-{
-    [0; 1980]
-}
-
-fn cells_room() -> [u8; 61440]
-    ensures { 61440 ≡ length result }
-{
-    [0; 61440]
-}
-
-fn byte_room() -> [u8; 1]
-    ensures { 1 ≡ length result }
-{
-    [0; 1]
-}
-
-// Reads until the room is full or the input ends. The answer is how many bytes stand at the room's start.
-fn read_full(input: &mut impl Read, room: &mut [u8]) -> io::Result<usize>
-    ensures { IfOk result (λ n. n ≤ length room.new) }
+// Reads until the bytes are full or the input ends. The answer is how many bytes are read. (The library's `read_to_end`
+// needs a heap, and its `read_exact` does not say how far a shorter input went.)
+fn read_full(input: &mut impl Read, bytes: &mut [u8]) -> io::Result<usize>
+    ensures { IfOk result (λ n. n ≤ length bytes.new) }
 {
     let mut done = 0;
-    while done < room.len() {
-        let n = input.read(&mut room[done..])?;
+    while done < bytes.len() {
+        let n = input.read(&mut bytes[done..])?;
         if n == 0 {
             break;
         }
@@ -65,69 +43,45 @@ fn read_full(input: &mut impl Read, room: &mut [u8]) -> io::Result<usize>
 }
 
 // Reads the file into tables of the sizes that it needs, and prints its rows.
-fn print_read(
-    rt: &impl Print,
-    file: &[u8],
-    orders: &mut [u8],
-    samples: &mut [u8],
-    cells: &mut [u8],
-) -> io::Result<()> {
-    let reading = read(file, RATE, orders, samples, cells);
-    let answer = reading.answer;
-    match answer {
-        ReadAnswer::Refused(rule) => print_refused(rt, rule),
-        ReadAnswer::Done => print_tune(rt, orders, cells, samples, reading.opening),
-    }
-}
-
-// The same, with the tables at the start of larger rooms.
-fn print_counted(
-    rt: &impl Print,
-    file: &[u8],
-    c: Counts,
-    orders: &mut [u8],
-    samples: &mut [u8],
-    cells: &mut [u8],
-) -> io::Result<()>
-    requires { (c.orders ≤ length orders.old) × (c.instruments * 20 ≤ length samples.old) × (c.patterns * 10240 ≤ length cells.old) }
+fn print_counted(rt: &impl Print, file: &[u8], c: Counts) -> io::Result<()>
+    requires { (c.orders ≤ 255) × (c.instruments ≤ 99) × (c.patterns ≤ 6) }
 {
-    print_read(
-        rt,
-        file,
-        &mut orders[..c.orders],
-        &mut samples[..c.instruments * 20],
-        &mut cells[..c.patterns * 10240],
-    )
+    let mut orders = room::<255>();
+    let mut samples = room::<1980>();
+    let mut cells = room::<61440>();
+    let orders = &mut orders[..usize::from(c.orders)];
+    let samples = &mut samples[..usize::from(c.instruments) * 20];
+    let cells = &mut cells[..usize::from(c.patterns) * 10240];
+    match read(file, RATE, orders, samples, cells) {
+        Ok(opening) => {
+            let tables = Tables {
+                orders,
+                cells,
+                samples,
+            };
+            print_tune(rt, tables, opening)
+        }
+        Err(refusal) => print_refused(rt, refusal.number()),
+    }
 }
 
 // A file of a size that is taken.
 fn print_file(rt: &impl Print, file: &[u8]) -> io::Result<()> {
-    let mut orders = orders_room();
-    let mut samples = samples_room();
-    let mut cells = cells_room();
     match measure(file) {
-        Measured::Refused(rule) => print_refused(rt, rule),
-        Measured::Found(c) => {
-            if PATTERNS < c.patterns {
-                print_refused(rt, 0)
-            } else {
-                print_counted(rt, file, c, &mut orders, &mut samples, &mut cells)
-            }
-        }
+        Ok(c) if PATTERNS < c.patterns => print_refused(rt, 0),
+        Ok(c) => print_counted(rt, file, c),
+        Err(refusal) => print_refused(rt, refusal.number()),
     }
 }
 
 fn main(rt: HostRuntime) -> io::Result<()> {
-    let mut room = file_room();
-    let mut further = byte_room();
+    let mut file = room::<65536>();
+    let mut further = room::<1>();
     let mut input = rt.reader();
-    print_text(
-        &rt,
-        b"order,pattern,row,held,speed,tempo,start,length,strikes\n",
-    )?;
-    let n = read_full(&mut input, &mut room)?;
+    println!(rt; "order,pattern,row,held,speed,tempo,start,length,strikes")?;
+    let n = read_full(&mut input, &mut file)?;
     if read_full(&mut input, &mut further)? != 0 {
         return print_refused(&rt, 0);
     }
-    print_file(&rt, &room[..n])
+    print_file(&rt, &file[..n])
 }

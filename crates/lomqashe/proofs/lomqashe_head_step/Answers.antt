@@ -8,12 +8,12 @@ returns-then-command-gt255 c =
     let q = command_wrong _ _ _ c.if-command-gt255.true in
     record { answer = q.0; written = q.1 }
 
-pub returns-in-Done : goal.returns-in-Done
-returns-in-Done c =
-    let q = head_stepped _ _ _ c.in-Done.is c.if-command-gt255.false c.step.ensures.answer c.step.ensures.written in
+pub returns-in-Ok : goal.returns-in-Ok
+returns-in-Ok c =
+    let q = head_stepped _ _ _ c.in-Ok.is c.if-command-gt255.false c.step.ensures.answer c.step.ensures.written in
     record { answer = q.0; written = q.1 }
 
-pub returns-in-Refused : goal.returns-in-Refused
-returns-in-Refused c =
-    let h = head_stepped _ _ _ c.in-Refused.is c.if-command-gt255.false c.step.ensures.answer c.step.ensures.written in
+pub returns-in-Err : goal.returns-in-Err
+returns-in-Err c =
+    let h = head_stepped _ _ _ c.in-Err.is c.if-command-gt255.false c.step.ensures.answer c.step.ensures.written in
     record { answer = c.refused.ensures ∙ h.0; written = h.1 }

@@ -4,4 +4,4 @@ use Rattle.lomqashe.proofs.channels.oscillator_of.Goals as goal
 
 pub returns : goal.returns
 unfolding oscillator_of
-returns c = simp (c.waveform_of.ensures, c.is_set.ensures)
+returns c = simp c.waveform_of.ensures

@@ -1,27 +1,40 @@
 -- `lomqashe::channels::put_channel` meets its contract. Assumes nothing.
 use mathlib.Core.Path.{◌≡◌, refl, sym, ap, ◌∙◌}
-use mathlib.Core.List.{List, ◌++◌, append_assoc}
-use Prim.Native.Nat.{ℕ, ◌+◌}
+use mathlib.Core.List.{◌++◌}
 use native.Mathlib.Omega.{arith}
-use lib.ListN.{length, take, drop, length-append}
-use borrow.Author.Rules.{rules}
+use lib.Ieee.{to_bits, binary32, binary64}
+use lib.ListN.{length, length-append}
 use Rattle.laws.proofs.Parts.{put_as, put_next}
-use Rattle.lomqashe.specs.Channels.{float_bytes, field_bytes, channel_bytes}
-use Rattle.lomqashe.proofs.Lengths.{float_length}
+use Rattle.tune.specs.Numbers.{bytes_of}
+use Rattle.tune.proofs.Bytes.{four_bytes, eight_bytes}
+use Rattle.lomqashe.specs.Channels.{delay_bytes, float_bytes, first_fields, last_fields, field_bytes, channel_bytes}
 use Rattle.lomqashe.proofs.channels.put_channel.Goals as goal
 
 pub returns : goal.returns
-unfolding channel_bytes
+unfolding channel_bytes float_bytes field_bytes bytes_of
 returns c =
     let l = c.args.out.now in
     let a = c.args.at in
-    let x = float_bytes c.args.c in
-    let y = field_bytes c.args.c in
-    let n : length y ≡ 32 = ap length (sym c.field_bytes-fields.ensures) ∙ c.put_block.ensures.1 in
-    let m : length (x ++ y) ≡ 48 = length-append x y ∙ rw (float_length c.args.c, n) in
-    put_next l (x ++ y) {b = c.args.c.effect_memory} a 48 32 80 refl (omega arith) m c.put_block-2.ensures.1 refl
-    (put_next l x a 16 32 48 refl (omega arith) (float_length c.args.c) c.put_block.ensures.1 c.field_bytes-fields.ensures
-    (put_as l a 16 (search rules) c.float_bytes-floats.ensures c.put_at.ensures)
-    c.put_block.ensures.0)
-    c.put_block-2.ensures.0
-    ∙ ap (λ (z : List ℕ). take a l ++ (z ++ drop (a + 80) l)) (append_assoc x y c.args.c.effect_memory)
+    let x = c.args.c in
+    let f = bytes_of 4 (to_bits binary32 x.frequency) in
+    let t = bytes_of 4 (to_bits binary32 x.target_frequency) in
+    let p = bytes_of 8 (to_bits binary64 x.sample_pos) in
+    let u = ((f ++ t) ++ p) ++ first_fields x in
+    let d = delay_bytes x.pending_delay in
+    let v = last_fields x in
+    let n : length d ≡ 5 = ap length (sym c.delay_bytes.ensures) ∙ c.put_block-5.ensures.1 in
+    let m : length (u ++ d) ≡ 30 = length-append u d ∙ rw n in
+    let k : length ((u ++ d) ++ v) ≡ 48 = length-append (u ++ d) v ∙ rw m in
+    put_next l ((u ++ d) ++ v) {b = x.effect_memory} a 48 32 80 refl (omega arith) k c.put_block-7.ensures.1 refl
+    (put_next l (u ++ d) a 30 18 48 refl (omega arith) m c.put_block-6.ensures.1 c.last_fields.ensures
+    (put_next l u a 25 5 30 refl (omega arith) refl c.put_block-5.ensures.1 c.delay_bytes.ensures
+    (put_next l ((f ++ t) ++ p) a 16 9 25 refl (omega arith) refl c.put_block-4.ensures.1 c.first_fields.ensures
+    (put_next l (f ++ t) a 8 8 16 refl (omega arith) refl c.put_block-3.ensures.1 (c.to_le_bytes-3.ensures ∙ eight_bytes _ ∙ ap (bytes_of 8) c.any_bits-3.ensures)
+    (put_next l f a 4 4 8 refl (omega arith) refl c.put_block-2.ensures.1 (c.to_le_bytes-2.ensures ∙ four_bytes _ ∙ ap (bytes_of 4) c.any_bits-2.ensures)
+    (put_as l a 4 c.put_block.ensures.1 (c.to_le_bytes.ensures ∙ four_bytes _ ∙ ap (bytes_of 4) c.any_bits.ensures) c.put_block.ensures.0)
+    c.put_block-2.ensures.0)
+    c.put_block-3.ensures.0)
+    c.put_block-4.ensures.0)
+    c.put_block-5.ensures.0)
+    c.put_block-6.ensures.0)
+    c.put_block-7.ensures.0

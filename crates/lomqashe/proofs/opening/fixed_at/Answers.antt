@@ -7,4 +7,4 @@ use Rattle.lomqashe.proofs.opening.fixed_at.Goals as goal
 
 pub returns : goal.returns
 unfolding fixed_at
-returns c = simp (c.is_set.ensures, c.is_set-2.ensures, c.is_set-3.ensures, to_z-of_z {w = w8} (record { sfits = c.signed_of.type_inv }) ∙ c.signed_of.ensures)
+returns c = simp (to_z-of_z {w = w8} (record { sfits = c.signed_of.type_inv }) ∙ c.signed_of.ensures)

@@ -4,4 +4,4 @@ use Rattle.lomqashe.proofs.opening.opening_of.Goals as goal
 
 pub returns : goal.returns
 unfolding opening_at
-returns c = simp (c.channels_of-channels.ensures, c.u32_at.ensures, c.is_set.ensures, c.is_set-2.ensures)
+returns c = simp (c.channels_of-channels.ensures, c.u32_at.ensures)

@@ -1,5 +1,6 @@
 -- `lomqashe::opening::transposition_byte` meets its contract. Assumes nothing.
 use mathlib.Core.Path.{ap, ◌∙◌}
+use native.Mathlib.Omega.{arith}
 use mir.Syntax.{w8}
 use mir.Val.{SFits}
 use mir.Facts.{to_z-of_z}
@@ -11,5 +12,5 @@ pub returns : goal.returns
 unfolding transposition_byte
 returns c =
     let x = c.args.c in
-    let f : SFits w8 x.fixed.transposition = record { sfits = c.struct_told-1.given.1.1.1.0.1 } in
+    let f : SFits w8 x.fixed.transposition = record { sfits = omega arith } in
     c.signed_byte.ensures ∙ ap signed_byte (to_z-of_z f)

@@ -4,4 +4,4 @@ use Rattle.lomqashe.proofs.state.path_of.Goals as goal
 
 pub returns : goal.returns
 unfolding path_of
-returns c = simp (c.bytes_at-infos.ensures, c.option_of-lo.ensures, c.option_of-count.ensures, c.is_set.ensures, c.u32_at.ensures, c.u64_at.ensures, c.u16_at.ensures.0, c.is_set-2.ensures)
+returns c = simp (c.bytes_at-infos.ensures, c.option_of-lo.ensures, c.option_of-count.ensures, c.u32_at.ensures, c.u64_at.ensures, c.u16_at.ensures.0)

@@ -4,4 +4,4 @@ use Rattle.lomqashe.proofs.state.state_of.Goals as goal
 
 pub returns : goal.returns
 unfolding state_of
-returns c = simp (c.is_set.ensures, c.is_set-2.ensures, c.path_of.ensures, c.channels_of.ensures)
+returns c = simp (c.path_of.ensures, c.channels_of.ensures)

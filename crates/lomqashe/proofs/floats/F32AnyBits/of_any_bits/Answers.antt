@@ -1,8 +1,8 @@
--- `lomqashe::floats::single_of` meets its contract. Assumes nothing.
+-- `lomqashe::floats::F32AnyBits::of_any_bits` meets its contract. Assumes nothing.
 use lib.Ieee.{div, of_bits, of_fields, odd}
 use native.Mathlib.Omega.{arith}
 use Rattle.lomqashe.proofs.Nans.{single_no_nan, single_nan}
-use Rattle.lomqashe.proofs.floats.single_of.Goals as goal
+use Rattle.lomqashe.proofs.floats.F32AnyBits.of_any_bits.Goals as goal
 
 pub float_from_bits-result : goal.float_from_bits-result
 float_from_bits-result c = single_no_nan c.args.bits c.if-bits-le-MOST_SINGLE.true

@@ -1,8 +1,8 @@
--- `lomqashe::floats::double_of` meets its contract. Assumes nothing.
+-- `lomqashe::floats::F64AnyBits::of_any_bits` meets its contract. Assumes nothing.
 use lib.Ieee.{div, of_bits, of_fields, odd}
 use native.Mathlib.Omega.{arith}
 use Rattle.lomqashe.proofs.Nans.{double_no_nan, double_nan}
-use Rattle.lomqashe.proofs.floats.double_of.Goals as goal
+use Rattle.lomqashe.proofs.floats.F64AnyBits.of_any_bits.Goals as goal
 
 pub float_from_bits-result : goal.float_from_bits-result
 float_from_bits-result c = double_no_nan c.args.bits c.if-bits-le-MOST_DOUBLE.true
