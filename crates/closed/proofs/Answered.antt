@@ -5,7 +5,7 @@ use mathlib.Core.Bool.{Bool, true, not}
 use borrow.Author.Tests.{ne_eqb, not-false}
 use lib.ListN.{length}
 use Rattle.laws.specs.Refusals.{refuse}
-use Rattle.laws.proofs.Rules.{next, sound, kept}
+use Rattle.laws.proofs.Rules.{first, next, sound, kept}
 use Rattle.tune.specs.Sizes.{pattern_count}
 use Rattle.tune.specs.declared.opening.Opening.{Opening}
 use Rattle.tune.proofs.Sized.{sized}
@@ -35,11 +35,15 @@ module _ (t : Tables) (o : Opening) where
   opened_err : (r : Refusal) → opened (Err r) ≡ opened_by (number_of r) o
   opened_err r = rw (ne_eqb (number_of r) 0 (number_more r))
 
+  pub opens_refused : (r : ℕ) → r ≡ open_rule t o → (r ≡ 0 → ⊥) → opened_by r o ≡ open_closed_of t o
+  unfolding open_closed_of open_closed_rule
+  opens_refused r e h = ap (λ (n : ℕ). opened_by n o) (sym (first (open_rule t o) (rule14 t) (λ z. h (e ∙ z)) ∙ sym e))
+
   -- the check of Open's rules refuses
-  pub opens_refused : {A : Type 0} (x : Result A Refusal) (r : Refusal) (y : Result State Refusal) → x ≡ Err r → y ≡ Err r → verdict x ≡ open_rule t o
+  pub opens_err : {A : Type 0} (x : Result A Refusal) (r : Refusal) (y : Result State Refusal) → x ≡ Err r → y ≡ Err r → verdict x ≡ open_rule t o
       → opened y ≡ open_closed_of t o
   unfolding open_closed_of open_closed_rule
-  opens_refused x r y e g v = ap opened g ∙ opened_err r ∙ ap (λ (n : ℕ). opened_by n o) (sym (refused x r (open_rule t o) (rule14 t) e v))
+  opens_err x r y e g v = ap opened g ∙ opened_err r ∙ ap (λ (n : ℕ). opened_by n o) (sym (refused x r (open_rule t o) (rule14 t) e v))
 
   -- neither it nor the check of rule 14 does
   pub rule_kept : {A B : Type 0} (x : Result A Refusal) (a : A) (y : Result B Refusal) (b : B) (q : Bool) → x ≡ Ok a → verdict x ≡ open_rule t o

@@ -1,4 +1,4 @@
-// Whether a tune is closed, worked out row by row (02, 2026-03).
+// Whether a tune is closed, worked out row by row.
 ghost use Rattle.std.specs.Prelude.{◌≡◌, ◌||◌, ◌+◌, ◌*◌, ◌/◌, ◌%◌, ◌≤◌, ◌<◌, eqb, ltb, length};
 ghost use Rattle.laws.specs.Choice.{pick};
 ghost use Rattle.laws.specs.Entries.{some};

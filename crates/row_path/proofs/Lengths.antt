@@ -1,8 +1,8 @@
 -- A row's length is bounded, and what is left over is less than a micrometre. Assumes nothing.
-use Prim.Native.Nat.{ℕ, ◌+◌, ◌*◌, ◌/◌, ◌≤◌, ◌<◌}
+use Prim.Native.Nat.{ℕ, ◌+◌, ◌*◌, ◌/◌, ◌^◌, ◌≤◌, ◌<◌}
 use mathlib.Core.Path.{◌≡◌, sym, ap, ◌∙◌}
 use native.Mathlib.Omega.{arith}
-use native.Mathlib.Nat.{div-lt_iff_lt-mul, mul-le-mul_left, mul-lt-mul_of_pos_right, mul-div_cancel, mul_comm, mul_assoc, mod-lt}
+use native.Mathlib.Nat.{div-le_self, div-lt_iff_lt-mul, mul-le-mul_left, mul-lt-mul_of_pos_right, mul-div_cancel, mul_comm, mul_assoc, mod-lt}
 use Rattle.row_path.specs.Card.{rescaled, units_of, length_of, rest_of}
 use Rattle.row_path.specs.declared.machine.Clock.{Clock}
 
@@ -11,6 +11,11 @@ pub product_most : (s r : ℕ) → s ≤ 255 → r ≤ 100000 → s * 5 * r ≤ 
 product_most s r hs hr =
     let a : s * 5 * r ≤ s * 5 * 100000 = mul-le-mul_left (s * 5) hr in
     omega arith
+
+-- so a length is below 2^32 at any tempo
+pub length-fits : (c : Clock) → c.speed ≤ 255 → c.rate ≤ 100000 → c.remainder < 65536 → length_of c < 2 ^ 32
+unfolding length_of
+length-fits c hs hr hm = omega (arith, product_most c.speed c.rate hs hr, div-le_self (units_of c + c.remainder) (2 * c.tempo))
 
 -- from tempo 32 on it is at most 1,992,188, one more than at remainder 0
 pub length_most : (c : Clock) → c.speed ≤ 255 → 32 ≤ c.tempo → c.rate ≤ 100000 → c.remainder < 2 * c.tempo → length_of c ≤ 1992188

@@ -50,3 +50,6 @@ little_back (suc n) s rest at x h e =
 
     whole : (x a m : ℕ) → a ≡ x % 256 → x / 256 ≡ m → x ≡ a + m * 256
     whole x a m f g = omega arith
+
+pub halves : (s : List ℕ) (at : ℕ) → little_at 4 s at + little_at 4 s (at + 4) * 4294967296 ≡ little_at 8 s at
+halves s at = rw (add-zero, add_assoc at 4 0, add_assoc at 4 1, add_assoc at 4 2, add_assoc at 4 3) (omega arith)

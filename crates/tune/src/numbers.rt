@@ -10,6 +10,7 @@ pub fn bytes_at<const N: usize>(s: &[u8], at: usize) -> [u8; N]
     *s[at..at + N].as_array().unwrap()
 }
 
+// One reader for each width, which says in `little_at`'s words what the library's conversion gives.
 pub fn u16_at(s: &[u8], at: usize) -> usize
     requires { at + 2 ≤ length s.now }
     ensures { (result ≡ little_at 2 s.now at) × (result < 65536) }

@@ -3,8 +3,6 @@ ghost use Rattle.std.specs.Prelude.{◌≡◌};
 ghost use Rattle.laws.specs.Refusals.{refuse};
 ghost use Rattle.tune.specs.Rules.{number_of, verdict};
 
-use std::fmt;
-
 #[derive(Clone, Copy, Debug, PartialEq, Eq)]
 pub enum Refusal {
     // the file is shorter than its header
@@ -49,12 +47,6 @@ impl Refusal {
         ensures { result ≡ number_of self }
     {
         self as u8
-    }
-}
-
-impl fmt::Display for Refusal {
-    fn fmt<W: fmt::Write>(&self, f: &mut fmt::Formatter<W>) -> fmt::Result {
-        write!(f, "rule {}", self.number())
     }
 }
 

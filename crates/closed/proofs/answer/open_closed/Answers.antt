@@ -3,12 +3,12 @@ use mathlib.Core.Path.{subst⁻¹}
 use borrow.Author.Rules.{rules}
 use Rattle.section.specs.Tables.{lent_by}
 use Rattle.closed.specs.Ends.{most_rows, EndsWithin}
-use Rattle.closed.proofs.Answered.{opens_refused, rule_kept, fresh_ends}
+use Rattle.closed.proofs.Answered.{opens_err, rule_kept, fresh_ends}
 use Rattle.closed.proofs.answer.open_closed.Goals as goal
 
 pub returns-in_err-check_open-clause-answer : goal.returns-in_err-check_open-clause-answer
 returns-in_err-check_open-clause-answer c =
-    opens_refused (lent_by c.args.tables) c.args.o c.check_open.result _ c.from_residual.result c.in_err-check_open.was (search rules) c.check_open.ensures.answer
+    opens_err (lent_by c.args.tables) c.args.o c.check_open.result _ c.from_residual.result c.in_err-check_open.was (search rules) c.check_open.ensures.answer
 
 pub returns-clause-ends : goal.returns-clause-ends
 returns-clause-ends c =
