@@ -6,7 +6,6 @@ pub mod Filled
 pub mod Given
 pub mod Joined
 pub mod Lengths
-pub mod Nans
 pub mod OpeningKept
 pub mod ReadOpens
 pub mod Reread

@@ -8,11 +8,13 @@ ghost use Rattle.std.specs.Prelude.{◌≡◌, ◌+◌, ◌*◌, ◌≤◌, ◌<
 ghost use Rattle.laws.specs.Entries.{tabulate, in_turn};
 ghost use Rattle.lomqashe.specs.Channels.{waveform_byte, waveform_of, delay_bytes, delay_at, first_fields, last_fields, channel_bytes, oscillator_of, fixed_of, channel_of};
 
-use crate::floats::AnyBits;
 use crate::numbers::put_block;
 use crate::state::StateBytes;
 use channel::state::{Channel, Oscillator, PendingTrigger, Tremor, Waveform};
 use std::array;
+use std::num::{
+    f32_from_bits_with_nan, f32_to_bits_with_nan, f64_from_bits_with_nan, f64_to_bits_with_nan,
+};
 use tune::numbers::{bytes_at, u32_at, u64_at};
 use tune::opening::Fixed;
 use tune::transposition::{signed_byte, signed_of};
@@ -109,9 +111,17 @@ fn put_channel(out: &mut [u8], at: usize, c: Channel)
     requires { at + 80 ≤ length out.old }
     ensures { out.new ≡ take at out.old ++ (channel_bytes c ++ drop (at + 80) out.old) }
 {
-    put_block(out, at, c.frequency.any_bits().to_le_bytes());
-    put_block(out, at + 4, c.target_frequency.any_bits().to_le_bytes());
-    put_block(out, at + 8, c.sample_pos.any_bits().to_le_bytes());
+    put_block(out, at, f32_to_bits_with_nan(c.frequency).to_le_bytes());
+    put_block(
+        out,
+        at + 4,
+        f32_to_bits_with_nan(c.target_frequency).to_le_bytes(),
+    );
+    put_block(
+        out,
+        at + 8,
+        f64_to_bits_with_nan(c.sample_pos).to_le_bytes(),
+    );
     put_block(out, at + 16, first_fields(c));
     put_block(out, at + 25, delay_bytes(c.pending_delay));
     put_block(out, at + 30, last_fields(c));
@@ -165,12 +175,12 @@ fn channel_of(part: &ChannelBytes) -> Channel
     let effect_memory = bytes_at(part, 48);
     Channel {
         instrument: part[16],
-        frequency: f32::of_any_bits(u32_at(part, 0)),
-        sample_pos: f64::of_any_bits(u64_at(part, 8)),
+        frequency: f32_from_bits_with_nan(u32_at(part, 0)),
+        sample_pos: f64_from_bits_with_nan(u64_at(part, 8)),
         volume: part[17],
         pan: part[18],
         active: part[19] != 0,
-        target_frequency: f32::of_any_bits(u32_at(part, 4)),
+        target_frequency: f32_from_bits_with_nan(u32_at(part, 4)),
         command: part[20],
         info: part[21],
         vibrato,

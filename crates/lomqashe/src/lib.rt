@@ -4,7 +4,6 @@
 #![tactic(auto)]
 
 pub mod channels;
-pub mod floats;
 pub mod numbers;
 pub mod opening;
 pub mod state;

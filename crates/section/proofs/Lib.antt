@@ -5,7 +5,6 @@ pub mod Answers
 pub mod Counts
 pub mod Fields
 pub mod Lists
-pub mod Nans
 pub mod Ready
 pub mod Rounds
 pub mod Showing

@@ -35,9 +35,7 @@ fn path_broken(p: Path) -> bool
 fn channel_broken(c: &Channel) -> bool
     ensures { result ≡ channel_broken c.now }
 {
-    (c.frequency != c.frequency)
-        | (c.target_frequency != c.target_frequency)
-        | is_beyond_24(c.fixed.transposition)
+    c.frequency.is_nan() | c.target_frequency.is_nan() | is_beyond_24(c.fixed.transposition)
 }
 
 #[tactic(auto, unfolding(channel::specs::LevelLimits::level_above))]
@@ -74,12 +72,12 @@ fn check_room(n: u32, room: usize) -> Result<(), Refusal>
 }
 
 // Does nothing: its promise is what the types of two lent parts say, from which the calls on a tune have `typed`.
-fn tell_bytes(cells: &[u8], samples: &[u8])
+fn bytes_typed(cells: &[u8], samples: &[u8])
     ensures { Bytes cells.now × Bytes samples.now }
 {}
 
 // The same of a state.
-fn tell_shape(s: State)
+fn state_typed(s: State)
     ensures { Shaped s }
 {}
 
@@ -89,7 +87,7 @@ pub fn check_open(tables: Tables, o: Opening) -> Result<(), Refusal>
     ensures answer { verdict result ≡ open_rule (lent_by tables.entry) o }
     ensures typed { ByteTables (lent_by tables.entry) × ShapedOpening o }
 {
-    tell_bytes(tables.cells, tables.samples);
+    bytes_typed(tables.cells, tables.samples);
     check_sizes(tables)?;
     check_opening(o)
 }
@@ -100,8 +98,8 @@ pub fn check_section(tables: Tables, s: State, n: u32, room: usize) -> Result<()
     ensures answer { verdict result ≡ section_rule (lent_by tables.entry) s n room }
     ensures typed { ByteTables (lent_by tables.entry) × Shaped s }
 {
-    tell_bytes(tables.cells, tables.samples);
-    tell_shape(s);
+    bytes_typed(tables.cells, tables.samples);
+    state_typed(s);
     check_sizes(tables)?;
     check_state(s)?;
     check_levels(s)?;

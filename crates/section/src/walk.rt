@@ -56,9 +56,9 @@ fn is_quiet_at(row: &Row, i: usize) -> bool
 }
 
 // The channels' bytes, as a record has them.
-fn shown_of(channels: [Channel; 32]) -> [u8; 512]
-    requires { every (λ i c. not (channel_broken c)) 0 channels ≡ true }
-    ensures { result ≡ channels_bytes channels }
+fn shown_of(channels: &[Channel; 32]) -> [u8; 512]
+    requires { every (λ i c. not (channel_broken c)) 0 channels.now ≡ true }
+    ensures { result ≡ channels_bytes channels.now }
 {
     let mut shown = [0; 512];
     for i in 0..32 {
@@ -93,7 +93,7 @@ fn walk(tables: Tables, s: State, n: u32, output: &mut [u8]) -> Progress
     let mut path = s.path;
     let mut channels = s.channels;
     let mut global = s.global_volume;
-    let mut shown = shown_of(channels);
+    let mut shown = shown_of(&channels);
     let mut rests = rests_of(channels);
     for rows in 0..n {
         if path.ended {

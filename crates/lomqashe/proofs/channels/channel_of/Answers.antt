@@ -7,9 +7,9 @@ use Rattle.lomqashe.proofs.channels.channel_of.Goals as goal
 pub returns : goal.returns
 returns c =
     channel_read c.args.part.now
-    (c.of_any_bits.ensures ∙ ap (of_bits binary32) c.u32_at.ensures)
-    (c.of_any_bits-3.ensures ∙ ap (of_bits binary32) c.u32_at-2.ensures)
-    (c.of_any_bits-2.ensures ∙ ap (of_bits binary64) c.u64_at.ensures)
+    (c.f32_from_bits_with_nan.ensures ∙ ap (of_bits binary32) c.u32_at.ensures)
+    (c.f32_from_bits_with_nan-2.ensures ∙ ap (of_bits binary32) c.u32_at-2.ensures)
+    (c.f64_from_bits_with_nan.ensures ∙ ap (of_bits binary64) c.u64_at.ensures)
     c.delay_of-pending_delay.ensures
     c.oscillator_of-vibrato.ensures
     c.oscillator_of-tremolo.ensures

@@ -29,9 +29,9 @@ returns c =
     (put_next l (u ++ d) a 30 18 48 refl (omega arith) m c.put_block-6.ensures.1 c.last_fields.ensures
     (put_next l u a 25 5 30 refl (omega arith) refl c.put_block-5.ensures.1 c.delay_bytes.ensures
     (put_next l ((f ++ t) ++ p) a 16 9 25 refl (omega arith) refl c.put_block-4.ensures.1 c.first_fields.ensures
-    (put_next l (f ++ t) a 8 8 16 refl (omega arith) refl c.put_block-3.ensures.1 (c.to_le_bytes-3.ensures ∙ eight_bytes _ ∙ ap (bytes_of 8) c.any_bits-3.ensures)
-    (put_next l f a 4 4 8 refl (omega arith) refl c.put_block-2.ensures.1 (c.to_le_bytes-2.ensures ∙ four_bytes _ ∙ ap (bytes_of 4) c.any_bits-2.ensures)
-    (put_as l a 4 c.put_block.ensures.1 (c.to_le_bytes.ensures ∙ four_bytes _ ∙ ap (bytes_of 4) c.any_bits.ensures) c.put_block.ensures.0)
+    (put_next l (f ++ t) a 8 8 16 refl (omega arith) refl c.put_block-3.ensures.1 (c.to_le_bytes-3.ensures ∙ eight_bytes _ ∙ ap (bytes_of 8) c.f64_to_bits_with_nan.ensures)
+    (put_next l f a 4 4 8 refl (omega arith) refl c.put_block-2.ensures.1 (c.to_le_bytes-2.ensures ∙ four_bytes _ ∙ ap (bytes_of 4) c.f32_to_bits_with_nan-2.ensures)
+    (put_as l a 4 c.put_block.ensures.1 (c.to_le_bytes.ensures ∙ four_bytes _ ∙ ap (bytes_of 4) c.f32_to_bits_with_nan.ensures) c.put_block.ensures.0)
     c.put_block-2.ensures.0)
     c.put_block-3.ensures.0)
     c.put_block-4.ensures.0)

@@ -1,6 +1,0 @@
--- `section::rules::tell_shape` meets its contract. Assumes nothing.
-use Rattle.section.proofs.Typed.{state_typed}
-use Rattle.section.proofs.rules.tell_shape.Goals as goal
-
-pub returns : goal.returns
-returns c = state_typed _ _ c.well_formed.0
