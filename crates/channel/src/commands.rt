@@ -13,7 +13,7 @@ use pitch::periods::PeriodTable;
 use pitch::slides::fine_slide;
 use tune::numbers::{high_nibble, low_nibble};
 
-// A frequency slid finely, within the Amiga limits.
+// A frequency slid finely, up or down by a factor, within the Amiga limits.
 fn slide_frequency(f: f32, up: bool, info: u8, amiga: bool) -> f32
     ensures { result ≡ limited amiga (slid f (factor_number up info)) }
 {

@@ -38,8 +38,7 @@ pub struct PendingTrigger {
 }
 
 // The Rust's Channel, with what goes together in structs of its own. The S slot (19) of its memory is the path's, slots 27 to
-// 31 are spare. Fields are copied one by one or together with their
-// neighbours: this order takes less time a row than the Rust's.
+// 31 are spare. Fields are copied one by one or together with their neighbours: this order takes less time a row than the Rust's.
 #[derive(Clone, Copy)]
 pub struct Channel {
     pub frequency: f32,

@@ -1,4 +1,4 @@
-// Records in column order, each column's bytes as differences, and back (02, 2026-07).
+// Records in column order, each column's bytes as differences, and back.
 #![tactic(auto)]
 
 pub mod bytes;
@@ -17,7 +17,7 @@ use rule::check_sizes;
 use steps::{Restoring, Storing};
 use tune::rules::Refusal;
 
-// Store: the columns of m records over the whole output; or rule 16 refuses, and nothing is written.
+// Two calls, since C calls each. Store: the columns of m records over the whole output; or rule 16 refuses, and nothing is written.
 #[tactic(auto, using(crate::proofs::Sizes::checked, crate::proofs::Sizes::left_alone, crate::proofs::Sizes::all_written), unfolding(crate::specs::Answers::store_output))]
 pub fn store(records: &[u8], m: u32, out: &mut [u8]) -> Result<(), Refusal>
     ensures answer { says result ≡ columns_say records.now m out.old }

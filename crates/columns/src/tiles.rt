@@ -45,7 +45,7 @@ pub fn to_rows(t: &mut Tile, u: &mut Tile)
     interleave(t, u);
 }
 
-// n bytes from place b on to place a on. By `copy_from_slice` a record takes 980 to 1,360 instructions instead of 391: the compiler
+// n bytes from place b on to place a on. By `copy_from_slice` a record takes 980 to 1,360 instructions instead of 395: the compiler
 // then keeps the tile in memory, and asks at each row whether the two lie apart.
 pub fn copy_row(to: &mut [u8], a: usize, from: &[u8], b: usize, n: usize)
     requires { (a + n ≤ length to.old) × (b + n ≤ length from.now) }

@@ -7,7 +7,7 @@ ghost use Rattle.columns.specs.Trips.{trip_says, trip_output};
 use crate::{restore, store};
 use tune::rules::Refusal;
 
-// Stores records, and restores what was written.
+// Two functions, a theorem each. Stores records, and restores what was written.
 pub fn store_and_restore(
     records: &[u8],
     m: u32,

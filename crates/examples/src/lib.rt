@@ -1,2 +1,2 @@
-// Document 01's marked examples, one theorem over a list of them, and examples of 02's requests. No code of its own.
+// Examples worked by hand, one theorem over a list of them, and examples of the calls that came later. No code of its own.
 #![tactic(auto)]

@@ -1,4 +1,4 @@
-// Demand 3: a channel is untouched when the others are re-voiced.
+// A channel is untouched when the others are re-voiced.
 #![tactic(auto)]
 
 pub mod witness;

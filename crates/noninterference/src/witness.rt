@@ -1,5 +1,5 @@
-// Demand 3, and the levels of 2026-08, of calls that this makes: both can be drawn only from what `open` and `section`
-// promise.
+// That chosen channels stay when the others are re-voiced, and that levels stay within their limits, of calls that this makes:
+// both can be drawn only from what `open` and `section` promise.
 ghost use Rattle.std.specs.Prelude.{◌≡◌, ◌≢◌, [], ◌∷◌};
 ghost use Rattle.section.specs.Tables.{Tune, lent_by};
 ghost use Rattle.section.specs.Open.{Opened, open_of, opened};

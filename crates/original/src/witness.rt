@@ -1,4 +1,4 @@
-// A call of Section whose own promise is demand 2's claim: what `section` promises is enough for it.
+// A call of Section whose own promise is that it does as the original Rust: what `section` promises is enough for it.
 ghost use Rattle.std.specs.Prelude.{◌≡◌};
 ghost use Rattle.section.specs.Tables.{lent_by};
 ghost use Rattle.section.specs.Section.{answered};

@@ -17,7 +17,7 @@ const PERIODS: [u32; 36] = [
 // The 36 periods, to be lent. An array is built where it is named: a loop builds the table once, before it starts.
 #[derive(Drop)]
 pub struct PeriodTable {
-    entries: [u32; 36],
+    pub entries: [u32; 36],
     pub ghost kept: { entries ≡ kept_periods },
 }
 

@@ -1,4 +1,4 @@
-// The punch head's sixteen registers, which a command steps (02, 2026-05).
+// The punch head's sixteen registers, which a command steps.
 #![tactic(auto)]
 
 pub mod actions;

@@ -87,6 +87,7 @@ pub struct Lent<'a> {
 }
 
 impl Function {
+    // One `match`: the functions differ in their parameters.
     pub fn call(self, number: u32, lent: Lent) -> u32 {
         let Lent { s0, s1, s2, s3, s4 } = lent;
         match self {

@@ -61,16 +61,16 @@ fn print_counted(rt: &impl Print, file: &[u8], c: Counts) -> io::Result<()>
             };
             print_tune(rt, tables, opening)
         }
-        Err(refusal) => print_refused(rt, refusal.number()),
+        Err(refusal) => print_refused(rt, Some(refusal)),
     }
 }
 
 // A file of a size that is taken.
 fn print_file(rt: &impl Print, file: &[u8]) -> io::Result<()> {
     match measure(file) {
-        Ok(c) if PATTERNS < c.patterns => print_refused(rt, 0),
+        Ok(c) if PATTERNS < c.patterns => print_refused(rt, None),
         Ok(c) => print_counted(rt, file, c),
-        Err(refusal) => print_refused(rt, refusal.number()),
+        Err(refusal) => print_refused(rt, Some(refusal)),
     }
 }
 
@@ -81,7 +81,7 @@ fn main(rt: HostRuntime) -> io::Result<()> {
     println!(rt; "order,pattern,row,held,speed,tempo,start,length,strikes")?;
     let n = read_full(&mut input, &mut file)?;
     if read_full(&mut input, &mut further)? != 0 {
-        return print_refused(&rt, 0);
+        return print_refused(&rt, None);
     }
     print_file(&rt, &file[..n])
 }

@@ -6,6 +6,7 @@ use section::walk::section;
 use sheet::line::line;
 use std::io;
 use tune::opening::Opening;
+use tune::rules::Refusal;
 use tune::sizes::Tables;
 
 // The bytes of a record, the rows of a section, and the sections of a sheet: 10,000 rows.
@@ -15,8 +16,9 @@ const SECTION: u32 = 50;
 
 const SECTIONS: u32 = 200;
 
-// The last line of a file that is not taken: 0 for a limit of this program's, else the rule.
-pub fn print_refused(rt: &impl Print, rule: u8) -> io::Result<()> {
+// The last line of a file that is not taken: the rule's number, or 0 for a limit of this program's.
+pub fn print_refused(rt: &impl Print, refusal: Option<Refusal>) -> io::Result<()> {
+    let rule = refusal.map_or(0, |refusal| refusal.number());
     println!(rt; "refused,{rule}")
 }
 
@@ -61,6 +63,6 @@ fn print_rows(rt: &impl Print, t: Tables, first: State) -> io::Result<()> {
 pub fn print_tune(rt: &impl Print, t: Tables, opening: Opening) -> io::Result<()> {
     match open(t, opening) {
         Ok(state) => print_rows(rt, t, state),
-        Err(refusal) => print_refused(rt, refusal.number()),
+        Err(refusal) => print_refused(rt, Some(refusal)),
     }
 }

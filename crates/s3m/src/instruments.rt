@@ -14,7 +14,7 @@ fn instrument_past(file: &[u8], pointer: u16) -> bool
     file.len() < usize::from(pointer) * 16 + 80
 }
 
-// Rule 7, over the n pointers of a list.
+// Rule 7, over the n pointers of a list, which stay two numbers beside the file, as the definitions have them.
 pub fn instruments_past(file: &[u8], list: usize, n: usize) -> bool
     requires { (n ≤ 99) × (list + n * 2 ≤ length file.now) }
     ensures { result ≡ instruments_past file.now list n }

@@ -22,6 +22,7 @@ use tune::opening::Opening;
 use tune::parts::copy_from;
 use tune::rules::{Refusal, refuse_if};
 
+// The three lengths stay numbers: Read is lent the tables to write, one by one.
 fn check_lengths(c: Counts, orders: usize, samples: usize, cells: usize) -> Result<(), Refusal>
     ensures { verdict result ≡ rule6 c orders samples cells }
 {

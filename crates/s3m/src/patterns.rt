@@ -48,8 +48,8 @@ fn four_past(file: &[u8], list: usize, k: usize) -> bool
     packed::any_runs_past(file, place_of(a), place_of(b), place_of(c), place_of(d))
 }
 
-// List and n stay two numbers beside the file, as the definitions have them. Rule 8, over the n pointers of a list: four at a time, which is faster than one by one, and then those that are left, so
-// the index goes on by 4 or by 1 and no `for` counts it.
+// Rule 8, over the n pointers of a list: four at a time, and then those that are left, so the index goes on by 4 or by 1 and no
+// `for` counts it. List and n stay two numbers beside the file, as the definitions have them.
 pub fn patterns_past(file: &[u8], list: usize, n: usize) -> bool
     requires { (n ≤ 100) × (list + n * 2 ≤ length file.now) }
     ensures { result ≡ patterns_past file.now list n }
