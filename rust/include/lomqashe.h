@@ -11,8 +11,8 @@
  * The archive is for x86-64: ELF objects, the System V calling convention. It links into programs,
  * position independent ones too, and into shared objects.
  *
- * Stack: lomqashe_section() takes 32,120 bytes, lomqashe_open() and lomqashe_open_closed() 14,056,
- * lomqashe_read() 4,296, the others below 400, arguments included. This was measured on a painted stack; nothing in the
+ * Stack: lomqashe_section() takes 22,344 bytes, lomqashe_open() and lomqashe_open_closed() 11,336,
+ * the others below 600, arguments included. This was measured on a painted stack; nothing in the
  * archive calls itself. Where the dynamic linker looks memcpy up at the first call, that comes on
  * top. A test asks that no call takes more than 32 KiB.
  *

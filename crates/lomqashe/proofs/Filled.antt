@@ -1,12 +1,12 @@
--- An array that a function fills, by index or entry by entry. Assumes nothing.
+-- An array that a function fills by index. Assumes nothing.
 use Prim.Native.Nat.{ℕ, zero, suc, ◌+◌, ◌≤◌, ◌<◌}
-use mathlib.Core.Path.{◌≡◌, refl, sym, subst, ◌∙◌}
-use mathlib.Core.List.{List, [], ◌∷◌, map}
+use mathlib.Core.Path.{◌≡◌, sym, subst, ◌∙◌}
+use mathlib.Core.List.{List}
 use native.Mathlib.Nat.{add-zero, zero-add}
 use native.Mathlib.Omega.{arith}
 use lib.ListN.{length, get_or}
 use denote.Param.Members.{Mut, Called}
-use Rattle.std.specs.Array.{IsFromFnResult, IsFromFnResultFrom, IsMapOf}
+use Rattle.std.specs.Array.{IsFromFnResult, IsFromFnResultFrom}
 use Rattle.laws.specs.Entries.{tabulate}
 use Rattle.laws.proofs.Turns.{tabulated}
 
@@ -29,15 +29,3 @@ module _ {F X : Type 0} (g : Mut F (ℕ × Unit {0}) X) (ys : List X) (h : ℕ �
   filled s f v r d =
       sym (subst (λ (k : ℕ). tabulate k h ≡ ys) r.long
       (tabulated h ys d (λ k b. let b' : k < m = omega (arith, r.long, b) in subst (λ (j : ℕ). h j ≡ get_or ys j d) (zero-add k) (each_filled s m 0 f (omega arith) v r.each d k b'))))
-
-same_entries : {A B : Type 0} (h : A → B) (d : A) (xs : List A) (ys : List B) → length ys ≡ length xs → ((k : ℕ) → k < length xs → get_or ys k (h d) ≡ h (get_or xs k d)) → ys ≡ map h xs
-same_entries h d [] [] e s = refl
-same_entries h d [] (y ∷ ys) e s = absurd (omega (arith, e))
-same_entries h d (x ∷ xs) [] e s = absurd (omega (arith, e))
-same_entries h d (x ∷ xs) (y ∷ ys) e s = λ i. s 0 (omega arith) i ∷ same_entries h d xs ys (omega (arith, e)) (λ k b. s (suc k) (omega (arith, b))) i
-
--- each call at x gives h x
-pub mapped : {F A B : Type 0} (g : Mut F (A × Unit {0}) B) (f : F) (xs : List A) (ys : List B) (n : ℕ) (h : A → B) (d : A) → length xs ≡ n → IsMapOf g f xs ys n
-    → ((p q : F) (x : A) (y : B) → Called g p (x, tt) y q → y ≡ h x) → ys ≡ map h xs
-mapped g f xs ys n h d e r s =
-    same_entries h d xs ys (r.long ∙ sym e) (λ k b. let w = r.at k d (h d) (omega (arith, e, b)) in s w.0 w.1 _ _ w.2)

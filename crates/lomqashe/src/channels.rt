@@ -11,7 +11,6 @@ ghost use Rattle.lomqashe.specs.Channels.{waveform_byte, waveform_of, delay_byte
 use crate::numbers::put_block;
 use crate::state::StateBytes;
 use channel::state::{Channel, Oscillator, PendingTrigger, Tremor, Waveform};
-use std::array;
 use std::num::{
     f32_from_bits_with_nan, f32_to_bits_with_nan, f64_from_bits_with_nan, f64_to_bits_with_nan,
 };
@@ -212,5 +211,9 @@ fn channel_at(s: &StateBytes, i: usize) -> Channel
 pub fn channels_of(s: &StateBytes) -> [Channel; 32]
     ensures { result ≡ tabulate 32 (λ i. channel_of (take 80 (drop (64 + i * 80) s.now))) }
 {
-    array::from_fn(|i| channel_at(s, i))
+    let mut channels = [channel_at(s, 0); 32];
+    for i in 0..32 {
+        channels[i] = channel_at(s, i);
+    }
+    channels
 }

@@ -47,15 +47,19 @@ fn transposition_byte(c: ChannelOpening) -> u8
     signed_byte(fixed.transposition)
 }
 
-fn transposition_bytes(channels: [ChannelOpening; 32]) -> [u8; 32]
-    ensures { result ≡ map transposition_byte channels }
+fn transposition_bytes(channels: &[ChannelOpening; 32]) -> [u8; 32]
+    ensures { result ≡ map transposition_byte channels.now }
 {
-    channels.map(transposition_byte)
+    let mut bytes = [0; 32];
+    for i in 0..32 {
+        bytes[i] = transposition_byte(channels[i]);
+    }
+    bytes
 }
 
 // The four bytes of 32 channels behind the head, one behind the other.
-fn put_channels(out: &mut OpeningBytes, channels: [ChannelOpening; 32])
-    ensures { out.new ≡ take 16 out.old ++ (in_turn setting_bytes channels ++ drop 144 out.old) }
+fn put_channels(out: &mut OpeningBytes, channels: &[ChannelOpening; 32])
+    ensures { out.new ≡ take 16 out.old ++ (in_turn setting_bytes channels.now ++ drop 144 out.old) }
 {
     for i in 0..32 {
         put_block(out, 16 + i * 4, channel_bytes(channels[i]));
@@ -69,8 +73,8 @@ pub fn put_opening(out: &mut OpeningBytes, o: Opening)
     put_block(out, 0, field_bytes(o));
     put_block(out, 8, o.rate.to_le_bytes());
     put_block(out, 12, [0; 4]);
-    put_channels(out, o.channels);
-    put_block(out, 144, transposition_bytes(o.channels));
+    put_channels(out, &o.channels);
+    put_block(out, 144, transposition_bytes(&o.channels));
 }
 
 fn fixed_at(s: &OpeningBytes, at: usize, transposition: usize) -> Fixed

@@ -16,7 +16,11 @@ use tune::sizes::Tables;
 fn open_channels(openings: [ChannelOpening; 32]) -> [Channel; 32]
     ensures { result ≡ map opened_channel openings }
 {
-    openings.map(open_channel)
+    let mut channels = [open_channel(openings[0]); 32];
+    for i in 0..32 {
+        channels[i] = open_channel(openings[i]);
+    }
+    channels
 }
 
 #[tactic(auto, unfolding(crate::specs::Open::fresh_state))]

@@ -68,10 +68,14 @@ fn shown_of(channels: &[Channel; 32]) -> [u8; 512]
 }
 
 // Which channels are at rest.
-fn rests_of(channels: [Channel; 32]) -> [bool; 32]
-    ensures { result ≡ map at_rest channels }
+fn rests_of(channels: &[Channel; 32]) -> [bool; 32]
+    ensures { result ≡ map at_rest channels.now }
 {
-    channels.map(is_at_rest)
+    let mut rests = [false; 32];
+    for i in 0..32 {
+        rests[i] = is_at_rest(channels[i]);
+    }
+    rests
 }
 
 // The first channel that a visit enters: a held visit enters none.
@@ -94,7 +98,7 @@ fn walk(tables: Tables, s: State, n: u32, output: &mut [u8]) -> Progress
     let mut channels = s.channels;
     let mut global = s.global_volume;
     let mut shown = shown_of(&channels);
-    let mut rests = rests_of(channels);
+    let mut rests = rests_of(&channels);
     for rows in 0..n {
         if path.ended {
             return given(rows, path, channels, global, s.switches);

@@ -16,4 +16,4 @@ loop-i-preserved c =
     let l = c.loop-i in
     let s = c.args in
     let put = put_as l.out (16 + l.i * 4) 4 c.put_block.ensures.1 c.channel_bytes.ensures c.put_block.ensures.0 in
-    (l.invariant.0, search rules, one_more setting_bytes 16 4 s.channels s.out.now l.i _ l.out l.invariant.2 (omega arith) (omega arith) (search rules) put)
+    (l.invariant.0, search rules, one_more setting_bytes 16 4 s.channels.now s.out.now l.i _ l.out l.invariant.2 (omega arith) (omega arith) (search rules) put)
