@@ -146,7 +146,15 @@ CASES = [
     ("10,000 rows and ended", tune([0] * 250, {39: "C00"}), sheet(FORTY, f"end,{length(10000)}")),
     ("10,000 rows and more", tune([0] * 251, {39: "C00"}), sheet(FORTY, f"more,{length(10000)}")),
     ("10,000 rows, and the next enter would end", tune([0] * 250 + [255], {39: "C00"}), sheet(FORTY, f"more,{length(10000)}")),
-    # The program asks for 50 rows at a time.
+    # The program asks for 40 rows at a time.
+    ("an end in the last row of the first section", tune([0], {39: "BFF"}), sheet(once(0, 40), f"end,{length(40)}")),
+    ("an end that the second section's enter finds", tune([0, 255], {39: "C00"}), sheet(once(0, 40), f"end,{length(40)}")),
+    (
+        "a hold across the first seam",
+        tune([0], {38: "SE5"}),
+        sheet(once(0, 39) + [(0, 38, 1, 0)] * 5 + once(39), f"end,{length(69)}"),
+    ),
+    # The same at 50.
     ("an end in the last row of a section", tune([0], {49: "BFF"}), sheet(once(0, 50), f"end,{length(50)}")),
     ("an end that the next section's enter finds", tune([0, 255], {49: "C00"}), sheet(once(0, 50), f"end,{length(50)}")),
     (

@@ -1,7 +1,8 @@
 // The rows of a tune, section by section.
+ghost use Rattle.std.specs.Prelude.{◌*◌, ◌≤◌, length};
+
 use crate::room;
 use section::open::open;
-use section::state::State;
 use section::walk::section;
 use sheet::line::line;
 use std::io;
@@ -12,9 +13,9 @@ use tune::sizes::Tables;
 // The bytes of a record, the rows of a section, and the sections of a sheet: 10,000 rows.
 const RECORD: usize = 536;
 
-const SECTION: u32 = 50;
+const SECTION: u32 = 40;
 
-const SECTIONS: u32 = 200;
+const SECTIONS: u32 = 250;
 
 // The last line of a file that is not taken: the rule's number, or 0 for a limit of this program's.
 pub fn print_refused(rt: &impl Print, refusal: Option<Refusal>) -> io::Result<()> {
@@ -31,7 +32,9 @@ fn print_record(rt: &impl Print, record_bytes: &[u8]) -> io::Result<()> {
 }
 
 // The lines of a section's first rows.
-fn print_records(rt: &impl Print, records: &[u8], rows: u32) -> io::Result<()> {
+fn print_records(rt: &impl Print, records: &[u8], rows: u32) -> io::Result<()>
+    requires { rows * 536 ≤ length records.now }
+{
     for record_bytes in records.chunks_exact(RECORD).take(rows as usize) {
         print_record(rt, record_bytes)?;
     }
@@ -44,10 +47,14 @@ fn print_last(rt: &impl Print, ended: bool, rows: u64, length: u64) -> io::Resul
     println!(rt; "{word},{rows},{length}")
 }
 
-// The rows from a state on, up to 10,000, and the last line.
-fn print_rows(rt: &impl Print, t: Tables, first: State) -> io::Result<()> {
-    let mut records = room::<26800>();
-    let mut state = first;
+// The rows of a tune, up to 10,000, and the last line; or the rule that refuses its tables or opening values. Open stands in
+// the function of the loop, so that both have the same stack.
+pub fn print_tune(rt: &impl Print, t: Tables, opening: Opening) -> io::Result<()> {
+    let mut state = match open(t, opening) {
+        Ok(state) => state,
+        Err(refusal) => return print_refused(rt, Some(refusal)),
+    };
+    let mut records = room::<21440>();
     let mut rows: u64 = 0;
     for k in 0..SECTIONS {
         if let Ok(given) = section(t, state, SECTION, &mut records) {
@@ -57,12 +64,4 @@ fn print_rows(rt: &impl Print, t: Tables, first: State) -> io::Result<()> {
         }
     }
     print_last(rt, state.path.ended, rows, state.path.clock.start)
-}
-
-// The rows of a tune, or the rule that refuses its tables or opening values.
-pub fn print_tune(rt: &impl Print, t: Tables, opening: Opening) -> io::Result<()> {
-    match open(t, opening) {
-        Ok(state) => print_rows(rt, t, state),
-        Err(refusal) => print_refused(rt, Some(refusal)),
-    }
 }
