@@ -82,7 +82,6 @@ waiting_in t e = pick e.path.hold.held None (waiting (row_cells t.cells e.patter
 abbrev pub row_from : Tables → State → Entered
 row_from t s = entered t.orders t.cells s.path
 
--- it is there
 -- behind the skipping there is a pattern to enter
 abbrev pub pattern_there : Tables → Path → Bool
 pattern_there t p = is_some (pattern_at t.orders (pattern_count t.cells) (skipped t.orders p.place.order))

@@ -1,5 +1,5 @@
 -- The Rust's `PlayerState`: the fields that `enter_row` and `next_row` write, those that they only read, and the locals of `enter_row`.
--- `Option<u8>` is `Option ℕ`; `Option<Jump>` is `Jump`, with `Stay` for `None`; `Channel` has the Rust's fields, some of them
+-- `Option<u8>` is `Option ℕ`; `Option<Jump>` is `Option Jump`; `Channel` has the Rust's fields, some of them
 -- in groups, and a transposition that the Rust does not know. Assumes nothing.
 use Rattle.std.specs.Prelude.{ℕ, Bool, List, Option}
 use Rattle.tune.specs.declared.cells.Cell.{Cell}
