@@ -207,7 +207,7 @@ fn channel_at(s: &StateBytes, i: usize) -> Channel
     channel_of(s[at..at + 80].as_array().unwrap())
 }
 
-// The 32 channels behind a state's head.
+// The 32 channels behind a state's head. (`from_fn` would copy them once more.)
 pub fn channels_of(s: &StateBytes) -> [Channel; 32]
     ensures { result ≡ tabulate 32 (λ i. channel_of (take 80 (drop (64 + i * 80) s.now))) }
 {

@@ -47,6 +47,7 @@ fn transposition_byte(c: ChannelOpening) -> u8
     signed_byte(fixed.transposition)
 }
 
+// The transpositions of 32 channels. (`map` would copy the channels.)
 fn transposition_bytes(channels: &[ChannelOpening; 32]) -> [u8; 32]
     ensures { result ≡ map transposition_byte channels.now }
 {

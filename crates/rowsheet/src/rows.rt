@@ -10,7 +10,7 @@ use tune::opening::Opening;
 use tune::rules::Refusal;
 use tune::sizes::Tables;
 
-// The bytes of a record, the rows of a section, and the sections of a sheet: 10,000 rows.
+// The bytes of a record, the rows of a section, whose records stand on the stack, and the sections of a sheet: 10,000 rows.
 const RECORD: usize = 536;
 
 const SECTION: u32 = 40;

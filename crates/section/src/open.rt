@@ -13,6 +13,7 @@ use tune::opening::{ChannelOpening, Opening};
 use tune::rules::Refusal;
 use tune::sizes::Tables;
 
+// The channels of a fresh state. (`map` would copy them once more.)
 fn open_channels(openings: [ChannelOpening; 32]) -> [Channel; 32]
     ensures { result ≡ map opened_channel openings }
 {

@@ -67,7 +67,7 @@ fn shown_of(channels: &[Channel; 32]) -> [u8; 512]
     shown
 }
 
-// Which channels are at rest.
+// Which channels are at rest. (`map` would copy the channels.)
 fn rests_of(channels: &[Channel; 32]) -> [bool; 32]
     ensures { result ≡ map at_rest channels.now }
 {
